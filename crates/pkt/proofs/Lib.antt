@@ -1,0 +1,6 @@
+pub mod Bytes
+pub mod Checksum
+pub mod Fields
+pub mod Headers
+pub mod Parts
+pub mod Only

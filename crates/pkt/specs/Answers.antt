@@ -1,0 +1,43 @@
+-- What each call answers, in document 01's terms.
+use Prim.Native.Nat.{ℕ}
+use mathlib.Core.Bool.{cond}
+use mathlib.Core.List.{List}
+use lib.ListN.{length}
+use lib.Dec.{ltb}
+use Rattle.pkt.specs.Rfc1071.{checksum}
+use Rattle.pkt.specs.Rfc768.{udpChecksum}
+use Rattle.pkt.specs.Rfc9293.{tcpChecksum}
+use Rattle.pkt.specs.Rfc792.{echoChecksum}
+use Rattle.pkt.specs.declared.ipv4.«tcp_hdr».{«tcp_hdr»}
+use Rattle.pkt.specs.declared.ipv4.«udp_hdr».{«udp_hdr»}
+use Rattle.pkt.specs.declared.ipv4.«icmp_hdr».{«icmp_hdr»}
+use Rattle.pkt.specs.declared.ipv4.«icmp_echo_hdr».{«icmp_echo_hdr»}
+use Rattle.pkt.specs.declared.ipv4.Sum.{Sum}
+use Rattle.pkt.specs.declared.ipv4.Sum.the-variants.{Is, Refused}
+
+-- An answer: a refusal's number in document 01's table, or what the call gives.
+pub data Answer (A : Type 0) : Type 0 where
+  refused : ℕ → Answer A
+  gives : A → Answer A
+
+abbrev pub sumSays : Sum → Answer ℕ
+sumSays (Is c) = gives c
+sumSays (Refused n) = refused n
+
+-- Number 1 is given exactly when there are more bytes than `most`.
+abbrev pub unlessLong : ℕ → ℕ → ℕ → Answer ℕ
+unlessLong most n c = cond (ltb most n) (refused 1) (gives c)
+
+-- "more than 65,535 bytes to sum"
+abbrev pub csumAnswer : List ℕ → Answer ℕ
+csumAnswer l = unlessLong 65535 (length l) (checksum l)
+
+-- "payload above 65,495 (TCP), 65,507 (UDP, ICMP)"
+abbrev pub tcpAnswer : ℕ → ℕ → «tcp_hdr» → List ℕ → Answer ℕ
+tcpAnswer s d h p = unlessLong 65495 (length p) (tcpChecksum s d h p)
+
+abbrev pub udpAnswer : ℕ → ℕ → «udp_hdr» → List ℕ → Answer ℕ
+udpAnswer s d h p = unlessLong 65507 (length p) (udpChecksum s d h p)
+
+abbrev pub echoAnswer : «icmp_hdr» → «icmp_echo_hdr» → List ℕ → Answer ℕ
+echoAnswer h e p = unlessLong 65507 (length p) (echoChecksum h e p)

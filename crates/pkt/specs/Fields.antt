@@ -1,0 +1,31 @@
+-- Numbers in bytes, the highest first, and a header as the list of its fields.
+use Prim.Native.Nat.{ℕ, zero, suc, _+_, _*_, _/_, _%_}
+use mathlib.Core.List.{List, [], _∷_, _++_}
+
+-- x in k bytes, big-endian: the low byte last, and what is above it in the k - 1 bytes before
+abbrev pub be : ℕ → ℕ → List ℕ
+be zero x = []
+be (suc k) x = be k (x / 256) ++ (x % 256 ∷ [])
+
+-- A field: its width in bytes and its number.
+pub record Field : Type 0 where
+  pub width : ℕ
+  pub number : ℕ
+
+abbrev pub field : ℕ → ℕ → Field
+field k x = record { width = k; number = x }
+
+-- fields one after the other
+abbrev pub fields : List Field → List ℕ
+fields [] = []
+fields (f ∷ fs) = be (f .width) (f .number) ++ fields fs
+
+-- how many bytes they take
+unfoldable pub widths : List Field → ℕ
+widths [] = 0
+widths (f ∷ fs) = f .width + widths fs
+
+-- the number that bytes stand for, the first the highest
+unfoldable pub value : ℕ → List ℕ → ℕ
+value acc [] = acc
+value acc (b ∷ bs) = value (acc * 256 + b) bs
