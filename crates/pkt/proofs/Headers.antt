@@ -139,3 +139,9 @@ pub echo-finished : (h : «icmp_hdr») (e : «icmp_echo_hdr») (p : List ℕ) �
     → 65535 - canon (0 + total (echoHeader h e 0) + total p) ≡ echoChecksum h e p
 unfolding total echoHeader echoChecksum
 echo-finished h e p bp = parts-checksum [] (echoHeader h e 0) p refl refl (λ i. omega arith) (fields-bytes (echoFields h e 0)) bp
+
+pub transport-finished : (s d p : ℕ) (l : List ℕ) → Bytes l
+    → 65535 - canon (total (pseudo s d p (length l)) + total [] + total l) ≡ checksum (pseudo s d p (length l) ++ l)
+unfolding pseudo
+transport-finished s d p l bl =
+    parts-checksum (pseudo s d p (length l)) [] l refl refl (fields-bytes (pseudoFields s d p (length l))) (λ i. omega arith) bl

@@ -4,3 +4,4 @@ pub mod Fields
 pub mod Headers
 pub mod Parts
 pub mod Only
+pub mod Written

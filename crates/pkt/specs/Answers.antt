@@ -1,11 +1,11 @@
 -- What each call answers, in document 01's terms.
 use Prim.Native.Nat.{ℕ}
 use mathlib.Core.Bool.{cond}
-use mathlib.Core.List.{List}
+use mathlib.Core.List.{List, _++_}
 use lib.ListN.{length}
 use lib.Dec.{ltb}
 use Rattle.pkt.specs.Rfc1071.{checksum}
-use Rattle.pkt.specs.Rfc768.{udpChecksum}
+use Rattle.pkt.specs.Rfc768.{pseudo, udpChecksum}
 use Rattle.pkt.specs.Rfc9293.{tcpChecksum}
 use Rattle.pkt.specs.Rfc792.{echoChecksum}
 use Rattle.pkt.specs.declared.ipv4.«tcp_hdr».{«tcp_hdr»}
@@ -41,3 +41,7 @@ udpAnswer s d h p = unlessLong 65507 (length p) (udpChecksum s d h p)
 
 abbrev pub echoAnswer : «icmp_hdr» → «icmp_echo_hdr» → List ℕ → Answer ℕ
 echoAnswer h e p = unlessLong 65507 (length p) (echoChecksum h e p)
+
+-- a whole transport part l, of at most 65,515 bytes, behind its pseudo header
+abbrev pub transportAnswer : ℕ → ℕ → ℕ → List ℕ → Answer ℕ
+transportAnswer s d p l = unlessLong 65515 (length l) (checksum (pseudo s d p (length l) ++ l))

@@ -6,3 +6,4 @@ pub mod Rfc768
 pub mod Rfc9293
 pub mod Rfc792
 pub mod Answers
+pub mod Written

@@ -37,7 +37,7 @@ fn plain(buf: &[u8]) -> u64
 }
 
 // A number that folds to what the sum of the words of buf folds to.
-pub fn ip_csum_partial(buf: &[u8]) -> u64
+pub(crate) fn ip_csum_partial(buf: &[u8]) -> u64
     requires { ⌜ length (now buf) ≤ 65535 ⌝ }
     ensures { λ r. ⌜ (canon r ≡ canon (total (now (buf .entry)))) × (r < 93824992236885) ⌝ }
 {
@@ -59,7 +59,7 @@ fn fold(x: u64) -> u64
 }
 
 // A sum folded to 16 bits, and complemented.
-pub fn ip_csum_fold(running: u64) -> u16
+pub(crate) fn ip_csum_fold(running: u64) -> u16
     requires { ⌜ running < 281474976710656 ⌝ }
     ensures { λ r. ⌜ r ≡ 65535 - canon running ⌝ }
 {
@@ -68,7 +68,7 @@ pub fn ip_csum_fold(running: u64) -> u16
 }
 
 // The checksum of a header and the payload behind it, from a sum of what stands before them.
-pub fn finished(before: u64, header: &[u8], payload: &[u8]) -> u16
+pub(crate) fn finished(before: u64, header: &[u8], payload: &[u8]) -> u16
     requires { ⌜ (before < 1048576) × (length (now header) ≤ 65535) × (length (now payload) ≤ 65535) ⌝ }
     ensures { λ r. ⌜ r ≡ 65535 - canon (before + total (now (header .entry)) + total (now (payload .entry))) ⌝ }
 {

@@ -8,7 +8,7 @@ ghost use Rattle.pkt.specs.Rfc768.{pseudo, nonzero, udpHeader};
 ghost use Rattle.pkt.specs.Rfc9293.{tcpHeader, tcpNew};
 ghost use Rattle.pkt.specs.Rfc792.{echoHeader, icmpNew, echoNew};
 ghost use Rattle.pkt.specs.Sums.{total};
-ghost use Rattle.pkt.specs.Answers.{sumSays, csumAnswer, tcpAnswer, udpAnswer, echoAnswer};
+ghost use Rattle.pkt.specs.Answers.{sumSays, csumAnswer, tcpAnswer, udpAnswer, echoAnswer, transportAnswer};
 
 pub mod proto {
     pub const ICMP: u8 = 1;
@@ -321,6 +321,24 @@ impl ip_pseudo_hdr {
         let dst = self.dst as u64;
         src / 65536 + src % 65536 + dst / 65536 + dst % 65536 + self.proto as u64 + self.len as u64
     }
+}
+
+// The checksum of a whole transport part between two addresses. It is 0 exactly where the part's own
+// checksum verifies.
+pub fn transport_csum(saddr: u32, daddr: u32, proto: u8, part: &[u8]) -> Sum
+    ensures { λ r. ⌜ sumSays r ≡ transportAnswer saddr daddr proto (now (part .entry)) ⌝ }
+{
+    let n = part.len();
+    if n > 65515 {
+        return Sum::Refused(refusal::TOO_LONG);
+    }
+    let pseudo = ip_pseudo_hdr {
+        src: saddr,
+        dst: daddr,
+        proto,
+        len: n as u16,
+    };
+    Sum::Is(csum::finished(pseudo.csum_partial(), b"", part))
 }
 
 // The checksum of a TCP segment between two addresses.

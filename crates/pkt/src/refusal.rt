@@ -2,3 +2,7 @@
 
 // More bytes than the packet, the sum or the record may have.
 pub const TOO_LONG: u8 = 1;
+// A piece's offset is above 8,191.
+pub const BAD_OFFSET: u8 = 2;
+// The lent output is shorter than what is to be written.
+pub const NO_ROOM: u8 = 3;

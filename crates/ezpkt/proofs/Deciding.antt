@@ -1,0 +1,73 @@
+-- Laws of the decision before a packet is written: what an answer tells of sizes and bounds.
+use mathlib.Core.Path.{_≡_, refl, sym, ap, _∙_}
+use mathlib.Core.Bool.{Bool, true, false, cond}
+use Prim.Native.Nat.{ℕ, _+_, _%_, _≤_}
+use native.Mathlib.Omega.{arith}
+use lib.Dec.{ltb}
+use lib.ListN.{length}
+use mathlib.Core.List.{List}
+use native.Mathlib.Decide.{decLe}
+use Rattle.ezpkt.specs.Ip4.{fragmentOf, tailOf}
+use Rattle.ezpkt.specs.declared.ip4.Template.{Template}
+use Rattle.ezpkt.specs.declared.build.Built.{Built}
+use borrow.Author.Tests.{ltb-false, le-ltb, lt-ltb}
+use Rattle.pkt.specs.Answers.{Answer, refused, gives, sumSays, unlessLong}
+use Rattle.pkt.specs.declared.ipv4.Sum.{Sum}
+use Rattle.pkt.specs.declared.ipv4.Sum.the-variants.{Is, Refused}
+use Rattle.ezpkt.specs.Answers.{summed}
+use Rattle.ezpkt.specs.Build.{sizedAnswer, pieceAnswer, answerOf, sizeOf, Answered}
+use Rattle.ezpkt.specs.declared.build.IpPiece.{IpPiece}
+use Rattle.ezpkt.specs.declared.build.Request.{Request}
+use Rattle.ezpkt.specs.declared.build.Request.the-variants.{Tcp, Udp, Echo, Piece}
+
+-- A checksum of few enough bytes is not refused.
+pub summed-is : (s : Sum) (most n c : ℕ) → sumSays s ≡ unlessLong most n c → n ≤ most → summed s ≡ c
+summed-is s most n c e h = go s (e ∙ ap (λ (b : Bool). cond b (refused 1) (gives c)) (le-ltb most n h))
+  where
+    go : (s : Sum) → sumSays s ≡ gives c → summed s ≡ c
+    go (Is x) q = cc
+    go (Refused x) q = let z : _≡_ {A = ℕ} 0 1 = cc in absurd (omega arith)
+
+-- One test of a decision: where the whole gives something, the test did not refuse.
+past : (a b x k : ℕ) (rest : Answer ℕ) → cond (ltb a b) (refused x) rest ≡ gives k → (b ≤ a) × (rest ≡ gives k)
+past a b x k rest e = go (ltb a b) refl e
+  where
+    go : (t : Bool) → ltb a b ≡ t → cond t (refused x) rest ≡ gives k → (b ≤ a) × (rest ≡ gives k)
+    go true h q = let z : _≡_ {A = ℕ} 0 1 = cc in absurd (omega arith)
+    go false h q = (ltb-false a b h, q)
+
+pub record Fits (most size n room k : ℕ) : Type 0 where
+  pub few : n ≤ most
+  pub room-for : size ≤ room
+  pub is-size : size ≡ k
+
+pub sized-fits : (most head n room k : ℕ) → sizedAnswer most head n room ≡ gives k → Fits most (head + n) n room k
+sized-fits most head n room k e =
+    let a = past most n 1 k _ e in
+    let b = past room (head + n) 3 k _ (a .1) in
+    record { few = a .0; room-for = b .0; is-size = (let q : head + n ≡ k = cc (b .1) in q) }
+
+pub piece-fits : (q : IpPiece) (n room k : ℕ) → pieceAnswer q n room ≡ gives k → (q .off ≤ 8191) × Fits 65515 (sizeOf (Piece q) n) n room k
+piece-fits q n room k e =
+    let a = past 65515 n 1 k _ e in
+    let b = past 8191 (q .off) 2 k _ (a .1) in
+    let d = past room (sizeOf (Piece q) n) 3 k _ (b .1) in
+    (b .0, record { few = a .0; room-for = d .0; is-size = (let z : sizeOf (Piece q) n ≡ k = cc (d .1) in z) })
+
+-- An answer that gives a length gives the packet's.
+pub gives-size : (q : Request) (n room k : ℕ) → answerOf q n room ≡ gives k → sizeOf q n ≡ k
+gives-size (Tcp t) n room k e = sized-fits 65495 40 n room k e .is-size
+gives-size (Udp u) n room k e = sized-fits 65507 28 n room k e .is-size
+gives-size (Echo x) n room k e = sized-fits 65507 28 n room k e .is-size
+gives-size (Piece q) n room k e = piece-fits q n room k e .1 .is-size
+
+-- `tail` hands on the length modulo 65,536: a payload of more bytes is refused whatever it asks for.
+pub tail-answered : (t : Template) (off : ℕ) (p o : List ℕ) (r : Built) (o′ : List ℕ)
+    → Answered (fragmentOf t off (length p % 65536)) p o r o′ → Answered (tailOf t off (length p)) p o r o′
+tail-answered t off p o r o′ x = go (decLe (length p) 65515)
+  where
+    go : Dec (length p ≤ 65515) → Answered (tailOf t off (length p)) p o r o′
+    go (yes h) = let e : length p % 65536 ≡ length p = omega arith in rw e at x
+    go (no h) =
+        let long = lt-ltb 65515 (length p) (omega arith) in
+        record { answer = simp long (simp long at (x .answer)); after = simp long (simp long at (x .after)) }

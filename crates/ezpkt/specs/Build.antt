@@ -1,0 +1,140 @@
+-- What a request to build is answered, and what it leaves in the lent buffer: document 01, 'Bytes of a header', 'Pieces' and
+-- 'Numbered answers'.
+use Prim.Native.Nat.{ℕ, _+_, _-_, _*_, min}
+use mathlib.Core.Path.{_≡_}
+use mathlib.Core.Bool.{Bool, not, cond}
+use mathlib.Core.List.{List, _++_}
+use lib.ListN.{length, take, drop}
+use lib.Dec.{ltb, eqb}
+use Rattle.pkt.specs.Answers.{Answer, refused, gives}
+use Rattle.pkt.specs.Rfc791.{ipHeader}
+use Rattle.pkt.specs.Rfc768.{udpHeader, udpChecksum}
+use Rattle.pkt.specs.Rfc9293.{tcpHeader, tcpChecksum}
+use Rattle.pkt.specs.Rfc792.{echoHeader, echoChecksum, icmpNew, echoNew}
+use Rattle.pkt.specs.declared.ipv4.«ip_hdr».{«ip_hdr»}
+use Rattle.pkt.specs.declared.ipv4.«tcp_hdr».{«tcp_hdr»}
+use Rattle.pkt.specs.declared.ipv4.«udp_hdr».{«udp_hdr»}
+use Rattle.ezpkt.specs.Answers.{builtSays, leaves}
+use Rattle.ezpkt.specs.declared.build.TcpSegment.{TcpSegment}
+use Rattle.ezpkt.specs.declared.build.UdpDatagram.{UdpDatagram}
+use Rattle.ezpkt.specs.declared.build.IcmpEcho.{IcmpEcho}
+use Rattle.ezpkt.specs.declared.build.IpPiece.{IpPiece}
+use Rattle.ezpkt.specs.declared.build.Request.{Request}
+use Rattle.ezpkt.specs.declared.build.Request.the-variants.{Tcp, Udp, Echo, Piece}
+use Rattle.ezpkt.specs.declared.build.Built.{Built}
+
+-- The IPv4 header of a packet with no template: TOS 0, id 0, TTL 64. Its protocol, total length, flags and offset, addresses.
+abbrev pub flowIp : ℕ → ℕ → ℕ → ℕ → ℕ → «ip_hdr»
+flowIp p size frag s d = record { tos = 0; «tot_len» = size; id = 0; «frag_off» = frag; ttl = 64; protocol = p; saddr = s; daddr = d }
+
+-- ---- a TCP segment
+
+abbrev pub tcpHdr : TcpSegment → «tcp_hdr»
+tcpHdr t = record { sport = t .sport; dport = t .dport; seq = t .seq; ack = t .ack; flags = t .flags }
+
+unfoldable pub tcpPacket : TcpSegment → List ℕ → List ℕ
+tcpPacket t p =
+    ipHeader (flowIp 6 (40 + length p) (t .«frag_off») (t .saddr) (t .daddr))
+    ++ (tcpHeader (tcpHdr t) (tcpChecksum (t .saddr) (t .daddr) (tcpHdr t) p) ++ p)
+
+-- ---- a UDP datagram
+
+abbrev pub udpHdr : UdpDatagram → ℕ → «udp_hdr»
+udpHdr u n = record { sport = u .sport; dport = u .dport; len = 8 + n }
+
+-- "the checksum is 0 unless asked for"
+abbrev pub udpField : UdpDatagram → «udp_hdr» → List ℕ → ℕ
+udpField u h p = cond (u .csum) (udpChecksum (u .saddr) (u .daddr) h p) 0
+
+unfoldable pub udpPacket : UdpDatagram → List ℕ → List ℕ
+udpPacket u p =
+    ipHeader (flowIp 17 (28 + length p) (u .«frag_off») (u .saddr) (u .daddr))
+    ++ (udpHeader (udpHdr u (length p)) (udpField u (udpHdr u (length p)) p) ++ p)
+
+-- ---- an ICMP echo
+
+-- "type 8 or 0"
+abbrev pub echoType : Bool → ℕ
+echoType reply = cond reply 0 8
+
+unfoldable pub echoPacket : IcmpEcho → List ℕ → List ℕ
+echoPacket e p =
+    ipHeader (flowIp 1 (28 + length p) 0 (e .saddr) (e .daddr))
+    ++ (echoHeader (icmpNew (echoType (e .reply))) (echoNew (e .seq)) (echoChecksum (icmpNew (echoType (e .reply))) (echoNew (e .seq)) p) ++ p)
+
+-- ---- a piece
+
+-- "carries bytes min(8·off, n) up to, not including, min(8·off + 8·len, n)"
+abbrev pub startOf : IpPiece → ℕ → ℕ
+startOf q n = min (8 * q .off) n
+
+abbrev pub endOf : IpPiece → ℕ → ℕ
+endOf q n = min (8 * q .off + 8 * q .len) n
+
+abbrev pub bit : Bool → ℕ → ℕ
+bit b n = cond b n 0
+
+-- the template's reserved and DF bits, MF, and the offset
+abbrev pub pieceFlags : IpPiece → Bool → ℕ
+pieceFlags q more = bit (q .template .evil) 0x8000 + bit (q .template .df) 0x4000 + bit more 0x2000 + q .off
+
+abbrev pub pieceIp : IpPiece → ℕ → Bool → «ip_hdr»
+pieceIp q size more =
+    record {
+      tos = q .template .tos;
+      «tot_len» = size;
+      id = q .template .id;
+      «frag_off» = pieceFlags q more;
+      ttl = q .template .ttl;
+      protocol = q .template .protocol;
+      saddr = q .template .saddr;
+      daddr = q .template .daddr;
+    }
+
+-- the bytes from start up to, not including, end
+abbrev pub between : ℕ → ℕ → List ℕ → List ℕ
+between start end p = take (end - start) (drop start p)
+
+-- "MF is set exactly if that end is not n"
+unfoldable pub piecePacket : IpPiece → List ℕ → List ℕ
+piecePacket q p =
+    ipHeader (pieceIp q (20 + (endOf q (length p) - startOf q (length p))) (not (eqb (endOf q (length p)) (length p))))
+    ++ between (startOf q (length p)) (endOf q (length p)) p
+
+-- ---- all four
+
+-- the packet that a request and its payload are
+abbrev pub packetOf : Request → List ℕ → List ℕ
+packetOf (Tcp t) p = tcpPacket t p
+packetOf (Udp u) p = udpPacket u p
+packetOf (Echo e) p = echoPacket e p
+packetOf (Piece q) p = piecePacket q p
+
+-- its length, for a payload of n bytes
+abbrev pub sizeOf : Request → ℕ → ℕ
+sizeOf (Tcp t) n = 40 + n
+sizeOf (Udp u) n = 28 + n
+sizeOf (Echo e) n = 28 + n
+sizeOf (Piece q) n = 20 + (endOf q n - startOf q n)
+
+-- Refusals 1 and 3: n bytes behind head bytes, at most `most` of them, and room for so many.
+abbrev pub sizedAnswer : ℕ → ℕ → ℕ → ℕ → Answer ℕ
+sizedAnswer most head n room = cond (ltb most n) (refused 1) (cond (ltb room (head + n)) (refused 3) (gives (head + n)))
+
+-- Refusals 1, 2 and 3.
+abbrev pub pieceAnswer : IpPiece → ℕ → ℕ → Answer ℕ
+pieceAnswer q n room =
+    cond (ltb 65515 n) (refused 1)
+    (cond (ltb 8191 (q .off)) (refused 2) (cond (ltb room (sizeOf (Piece q) n)) (refused 3) (gives (sizeOf (Piece q) n))))
+
+-- the answer, for a payload of n bytes and room for so many
+abbrev pub answerOf : Request → ℕ → ℕ → Answer ℕ
+answerOf (Tcp t) n room = sizedAnswer 65495 40 n room
+answerOf (Udp u) n room = sizedAnswer 65507 28 n room
+answerOf (Echo e) n room = sizedAnswer 65507 28 n room
+answerOf (Piece q) n room = pieceAnswer q n room
+
+-- A call's whole promise: for a request, a payload p and a buffer o before, the one answer and the one buffer after.
+pub record Answered (q : Request) (p o : List ℕ) (r : Built) (o′ : List ℕ) : Type 0 where
+  pub answer : builtSays r ≡ answerOf q (length p) (length o)
+  pub after : o′ ≡ leaves (answerOf q (length p) (length o)) (packetOf q p) o

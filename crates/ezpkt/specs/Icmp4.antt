@@ -1,0 +1,50 @@
+-- Echoes of a flow: document 01, 'Bytes of a header', ICMP.
+use Prim.Native.Nat.{ℕ, _+_, _%_}
+use mathlib.Core.Path.{_≡_}
+use mathlib.Core.Bool.{true, false}
+use mathlib.Core.List.{List}
+use lib.ListN.{length}
+use Rattle.pkt.specs.Answers.{Answer, refused, gives}
+use Rattle.ezpkt.specs.Answers.{leaves}
+use Rattle.ezpkt.specs.Build.{answerOf, packetOf}
+use Rattle.ezpkt.specs.declared.build.Request.{Request}
+use Rattle.ezpkt.specs.declared.build.Request.the-variants.{Echo}
+use Rattle.ezpkt.specs.declared.icmp4.IcmpFlow.{IcmpFlow}
+use Rattle.ezpkt.specs.declared.icmp4.Sent.{Sent}
+use Rattle.ezpkt.specs.declared.icmp4.Sent.the-variants.{Packet, Refused}
+
+-- "The two numbers start at 0"
+abbrev pub newFlow : ℕ → ℕ → IcmpFlow
+newFlow cl sv = record { cl = cl; sv = sv; «ping_seq» = 0; «pong_seq» = 0 }
+
+-- the echo and the reply that come next, and the flow after each: the numbers "count apart and wrap at 65,536"
+abbrev pub pingOf : IcmpFlow → Request
+pingOf f = Echo (record { saddr = f .cl; daddr = f .sv; reply = false; seq = f .«ping_seq» })
+
+abbrev pub pongOf : IcmpFlow → Request
+pongOf f = Echo (record { saddr = f .sv; daddr = f .cl; reply = true; seq = f .«pong_seq» })
+
+abbrev pub pinged : IcmpFlow → IcmpFlow
+pinged f = record { cl = f .cl; sv = f .sv; «ping_seq» = (f .«ping_seq» + 1) % 65536; «pong_seq» = f .«pong_seq» }
+
+abbrev pub ponged : IcmpFlow → IcmpFlow
+ponged f = record { cl = f .cl; sv = f .sv; «ping_seq» = f .«ping_seq»; «pong_seq» = (f .«pong_seq» + 1) % 65536 }
+
+-- What a sent echo gives: the flow after it, and its length.
+pub record Gone : Type 0 where
+  pub flow : IcmpFlow
+  pub size : ℕ
+
+abbrev pub sentSays : Sent → Answer Gone
+sentSays (Packet f n) = gives (record { flow = f; size = n })
+sentSays (Refused n) = refused n
+
+-- an answer of building, with the flow that goes with a packet
+abbrev pub withFlow : IcmpFlow → Answer ℕ → Answer Gone
+withFlow f (gives n) = gives (record { flow = f; size = n })
+withFlow f (refused n) = refused n
+
+-- A call's whole promise: a request, the flow after it, the payload and the buffer before; the answer and the buffer after.
+pub record Echoed (q : Request) (f : IcmpFlow) (p o : List ℕ) (r : Sent) (o′ : List ℕ) : Type 0 where
+  pub answer : sentSays r ≡ withFlow f (answerOf q (length p) (length o))
+  pub after : o′ ≡ leaves (answerOf q (length p) (length o)) (packetOf q p) o

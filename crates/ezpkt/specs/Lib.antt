@@ -1,0 +1,6 @@
+pub mod Answers
+pub mod Build
+pub mod Ip4
+pub mod Udp4
+pub mod Icmp4
+pub mod Tcp4

@@ -1,0 +1,24 @@
+-- Datagrams of a flow: document 01, 'Bytes of a header', the UDP choices.
+use Prim.Native.Nat.{ℕ}
+use Rattle.ezpkt.specs.declared.SocketAddrV4.{SocketAddrV4}
+use Rattle.ezpkt.specs.declared.build.UdpDatagram.{UdpDatagram}
+use Rattle.ezpkt.specs.declared.udp4.Choices.{Choices}
+use Rattle.ezpkt.specs.declared.udp4.SrcIp.{SrcIp}
+use Rattle.ezpkt.specs.declared.udp4.SrcIp.the-variants.{Own, Other}
+
+-- the source address: the flow's, or the one chosen
+abbrev pub sourceOf : ℕ → SrcIp → ℕ
+sourceOf own Own = own
+sourceOf own (Other ip) = ip
+
+-- from one end to the other, with the choices of srcip, frag_off and checksum; the checksum is over the source chosen
+abbrev pub dgramOf : SocketAddrV4 → SocketAddrV4 → Choices → UdpDatagram
+dgramOf from to x =
+    record {
+      saddr = sourceOf (from .ip) (x .srcip);
+      daddr = to .ip;
+      sport = from .port;
+      dport = to .port;
+      «frag_off» = x .«frag_off»;
+      csum = x .csum;
+    }

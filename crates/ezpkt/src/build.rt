@@ -1,0 +1,116 @@
+// One request to build names one kind of packet.
+use crate::ip4::Template;
+use crate::write;
+use pkt::refusal;
+ghost use mathlib.Core.Path.{_≡_};
+ghost use Prim.Native.Nat.{_≤_};
+ghost use Rattle.ezpkt.specs.Answers.{builtSays};
+ghost use Rattle.ezpkt.specs.Build.{sizedAnswer, pieceAnswer, answerOf, Answered};
+
+// A TCP segment between two addresses and ports.
+pub struct TcpSegment {
+    pub saddr: u32,
+    pub daddr: u32,
+    pub sport: u16,
+    pub dport: u16,
+    pub seq: u32,
+    pub ack: u32,
+    pub flags: u8,
+    pub frag_off: u16,
+}
+
+// A UDP datagram between two addresses and ports, with a checksum or with none.
+pub struct UdpDatagram {
+    pub saddr: u32,
+    pub daddr: u32,
+    pub sport: u16,
+    pub dport: u16,
+    pub frag_off: u16,
+    pub csum: bool,
+}
+
+// An ICMP echo, or the reply to one, with its number.
+pub struct IcmpEcho {
+    pub saddr: u32,
+    pub daddr: u32,
+    pub reply: bool,
+    pub seq: u16,
+}
+
+// A piece of an IPv4 payload: len blocks of 8 bytes from block off.
+pub struct IpPiece {
+    pub template: Template,
+    pub off: u16,
+    pub len: u16,
+}
+
+pub enum Request {
+    Tcp(TcpSegment),
+    Udp(UdpDatagram),
+    Echo(IcmpEcho),
+    Piece(IpPiece),
+}
+
+// The length of the packet that was built, or the number of the refusal.
+pub enum Built {
+    Packet(usize),
+    Refused(u8),
+}
+
+// A packet of head bytes and n more, of which there may be at most most.
+fn sized(most: usize, head: usize, n: usize, room: usize) -> Built
+    requires { ⌜ (most ≤ 65515) × (head ≤ 40) ⌝ }
+    ensures { λ r. ⌜ builtSays r ≡ sizedAnswer most head n room ⌝ }
+{
+    if n > most {
+        return Built::Refused(refusal::TOO_LONG);
+    }
+    let size = head + n;
+    if room < size {
+        return Built::Refused(refusal::NO_ROOM);
+    }
+    Built::Packet(size)
+}
+
+fn sized_piece(q: IpPiece, n: usize, room: usize) -> Built
+    ensures { λ r. ⌜ builtSays r ≡ pieceAnswer q n room ⌝ }
+{
+    let off = q.off;
+    if n > 65515 {
+        return Built::Refused(refusal::TOO_LONG);
+    }
+    if off > 8191 {
+        return Built::Refused(refusal::BAD_OFFSET);
+    }
+    let span = write::span_of(q, n);
+    let size = 20 + (span.end - span.start);
+    if room < size {
+        return Built::Refused(refusal::NO_ROOM);
+    }
+    Built::Packet(size)
+}
+
+// What build answers for a payload of n bytes and an output of room bytes, with nothing written.
+pub fn answer(req: Request, n: usize, room: usize) -> Built
+    ensures { λ r. ⌜ builtSays r ≡ answerOf req n room ⌝ }
+{
+    match req {
+        Request::Tcp(_) => sized(65495, 40, n, room),
+        Request::Udp(_) => sized(65507, 28, n, room),
+        Request::Echo(_) => sized(65507, 28, n, room),
+        Request::Piece(q) => sized_piece(q, n, room),
+    }
+}
+
+// Builds the packet at the start of out, or refuses and leaves out as it was.
+pub fn build(req: Request, payload: &[u8], out: &mut [u8]) -> Built
+    ensures { λ r. ⌜ Answered req (now (payload .entry)) (now (out .entry)) r (now (out .exit)) ⌝ }
+{
+    match answer(req, payload.len(), out.len()) {
+        Built::Refused(number) => Built::Refused(number),
+        Built::Packet(size) => {
+            write::packet(req, payload, out);
+            Built::Packet(size)
+        }
+    }
+}

@@ -1,0 +1,74 @@
+// Echoes and replies of an ICMP flow.
+use crate::build;
+use crate::build::Built;
+use crate::build::IcmpEcho;
+use crate::build::Request;
+ghost use mathlib.Core.Path.{_≡_};
+ghost use Prim.Native.Nat.{_+_, _%_};
+ghost use Rattle.ezpkt.specs.Answers.{builtSays};
+ghost use Rattle.ezpkt.specs.Icmp4.{newFlow, sentSays, withFlow, Echoed, pingOf, pongOf, pinged, ponged};
+
+// The numbers of the next echo and of the next reply. They count apart.
+pub struct IcmpFlow {
+    pub cl: u32,
+    pub sv: u32,
+    pub ping_seq: u16,
+    pub pong_seq: u16,
+}
+
+// The flow after a packet and the packet's length, or the number of the refusal.
+pub enum Sent {
+    Packet(IcmpFlow, usize),
+    Refused(u8),
+}
+
+// The flow with the packet, if there is one.
+fn with_flow(built: Built, flow: IcmpFlow) -> Sent
+    ensures { λ r. ⌜ sentSays r ≡ withFlow flow (builtSays built) ⌝ }
+{
+    match built {
+        Built::Packet(size) => Sent::Packet(flow, size),
+        Built::Refused(number) => Sent::Refused(number),
+    }
+}
+
+impl IcmpFlow {
+    pub fn new(cl: u32, sv: u32) -> Self
+        ensures { λ r. ⌜ r ≡ newFlow cl sv ⌝ }
+    {
+        Self {
+            cl,
+            sv,
+            ping_seq: 0,
+            pong_seq: 0,
+        }
+    }
+
+    pub fn echo(self, bytes: &[u8], out: &mut [u8]) -> Sent
+        ensures { λ r. ⌜ Echoed (pingOf self) (pinged self) (now (bytes .entry)) (now (out .entry)) r (now (out .exit)) ⌝ }
+    {
+        let request = IcmpEcho {
+            saddr: self.cl,
+            daddr: self.sv,
+            reply: false,
+            seq: self.ping_seq,
+        };
+        let mut next = self;
+        next.ping_seq = std::num::wrapping_add_u16(self.ping_seq, 1);
+        with_flow(build::build(Request::Echo(request), bytes, out), next)
+    }
+
+    pub fn echo_reply(self, bytes: &[u8], out: &mut [u8]) -> Sent
+        ensures { λ r. ⌜ Echoed (pongOf self) (ponged self) (now (bytes .entry)) (now (out .entry)) r (now (out .exit)) ⌝ }
+    {
+        let request = IcmpEcho {
+            saddr: self.sv,
+            daddr: self.cl,
+            reply: true,
+            seq: self.pong_seq,
+        };
+        let mut next = self;
+        next.pong_seq = std::num::wrapping_add_u16(self.pong_seq, 1);
+        with_flow(build::build(Request::Echo(request), bytes, out), next)
+    }
+}

@@ -1,0 +1,231 @@
+// The writers behind a decision: what they are asked for is known to fit.
+use crate::build::IcmpEcho;
+use crate::build::IpPiece;
+use crate::build::Request;
+use crate::build::TcpSegment;
+use crate::build::UdpDatagram;
+use pkt::ipv4;
+use pkt::ipv4::Sum;
+use pkt::ipv4::icmp_echo_hdr;
+use pkt::ipv4::icmp_hdr;
+use pkt::ipv4::ip_hdr;
+use pkt::ipv4::tcp_hdr;
+use pkt::ipv4::udp_hdr;
+ghost use mathlib.Core.Path.{_≡_};
+ghost use mathlib.Core.List.{_++_};
+ghost use Prim.Native.Nat.{_+_, _≤_, min};
+ghost use lib.ListN.{length};
+ghost use Rattle.pkt.specs.Written.{written};
+ghost use Rattle.pkt.specs.Answers.{gives};
+ghost use Rattle.pkt.specs.Rfc791.{ipHeader};
+ghost use Rattle.ezpkt.specs.Answers.{summed};
+ghost use Rattle.ezpkt.specs.Build.{flowIp, tcpHdr, udpHdr, udpField, echoType, startOf, endOf, pieceFlags, pieceIp, bit, tcpPacket, udpPacket, echoPacket, piecePacket, packetOf, answerOf, sizeOf};
+ghost use Rattle.ezpkt.specs.declared.build.Request.the-variants.{Tcp, Udp, Echo, Piece};
+
+// src at the start of dst, whose other bytes stay.
+pub(crate) fn put(src: &[u8], dst: &mut [u8])
+    requires { ⌜ length (now src) ≤ length (now dst) ⌝ }
+    ensures { λ _. ⌜ now (dst .exit) ≡ written (now (src .entry)) (now (dst .entry)) ⌝ }
+{
+    bytes::copy(src, dst);
+}
+
+// An IPv4 header, a transport header and a payload, end to end.
+fn put_all(ip: &[u8; 20], head: &[u8], payload: &[u8], out: &mut [u8])
+    requires { ⌜ 20 + length (now head) + length (now payload) ≤ length (now out) ⌝ }
+    ensures { λ _. ⌜ now (out .exit) ≡ written (now (ip .entry) ++ (now (head .entry) ++ now (payload .entry))) (now (out .entry)) ⌝ }
+{
+    put(ip, out);
+    put(head, &mut out[20..]);
+    let at = 20 + head.len();
+    put(payload, &mut out[at..]);
+}
+
+// The IPv4 header of a packet that has no template.
+fn flow_ip(protocol: u8, size: u16, frag_off: u16, saddr: u32, daddr: u32) -> [u8; 20]
+    ensures { λ r. ⌜ r ≡ ipHeader (flowIp protocol size «frag_off» saddr daddr) ⌝ }
+{
+    let mut ip = ip_hdr::default();
+    ip.tot_len = size;
+    ip.frag_off = frag_off;
+    ip.protocol = protocol;
+    ip.saddr = saddr;
+    ip.daddr = daddr;
+    ip.to_bytes()
+}
+
+// The number of a checksum that was not refused.
+fn number(sum: Sum) -> u16
+    ensures { λ r. ⌜ r ≡ summed sum ⌝ }
+{
+    match sum {
+        Sum::Is(csum) => csum,
+        Sum::Refused(_) => 0,
+    }
+}
+
+pub(crate) fn tcp(t: TcpSegment, payload: &[u8], out: &mut [u8])
+    requires { ⌜ (length (now payload) ≤ 65495) × (40 + length (now payload) ≤ length (now out)) ⌝ }
+    ensures { λ _. ⌜ now (out .exit) ≡ written (tcpPacket t (now (payload .entry))) (now (out .entry)) ⌝ }
+{
+    let h = tcp_hdr {
+        sport: t.sport,
+        dport: t.dport,
+        seq: t.seq,
+        ack: t.ack,
+        flags: t.flags,
+    };
+    let csum = number(ipv4::tcp_csum(t.saddr, t.daddr, h, payload));
+    let ip = flow_ip(
+        ipv4::proto::TCP,
+        (40 + payload.len()) as u16,
+        t.frag_off,
+        t.saddr,
+        t.daddr,
+    );
+    let head = h.to_bytes(csum);
+    put_all(&ip, &head, payload, out);
+}
+
+pub(crate) fn udp(u: UdpDatagram, payload: &[u8], out: &mut [u8])
+    requires { ⌜ (length (now payload) ≤ 65507) × (28 + length (now payload) ≤ length (now out)) ⌝ }
+    ensures { λ _. ⌜ now (out .exit) ≡ written (udpPacket u (now (payload .entry))) (now (out .entry)) ⌝ }
+{
+    let n = payload.len();
+    let h = udp_hdr {
+        sport: u.sport,
+        dport: u.dport,
+        len: (8 + n) as u16,
+    };
+    let csum = udp_field(u, h, payload);
+    let ip = flow_ip(
+        ipv4::proto::UDP,
+        (28 + n) as u16,
+        u.frag_off,
+        u.saddr,
+        u.daddr,
+    );
+    let head = h.to_bytes(csum);
+    put_all(&ip, &head, payload, out);
+}
+
+// The checksum's field: 0 unless a checksum is asked for.
+fn udp_field(u: UdpDatagram, h: udp_hdr, payload: &[u8]) -> u16
+    requires { ⌜ length (now payload) ≤ 65507 ⌝ }
+    ensures { λ r. ⌜ r ≡ udpField u h (now (payload .entry)) ⌝ }
+{
+    if u.csum {
+        return number(ipv4::udp_csum(u.saddr, u.daddr, h, payload));
+    }
+    0
+}
+
+fn echo_type(reply: bool) -> u8
+    ensures { λ r. ⌜ r ≡ echoType reply ⌝ }
+{
+    if reply {
+        ipv4::ICMP_ECHOREPLY
+    } else {
+        ipv4::ICMP_ECHO
+    }
+}
+
+pub(crate) fn echo(e: IcmpEcho, payload: &[u8], out: &mut [u8])
+    requires { ⌜ (length (now payload) ≤ 65507) × (28 + length (now payload) ≤ length (now out)) ⌝ }
+    ensures { λ _. ⌜ now (out .exit) ≡ written (echoPacket e (now (payload .entry))) (now (out .entry)) ⌝ }
+{
+    let h = icmp_hdr::new(echo_type(e.reply));
+    let numbers = icmp_echo_hdr::new(e.seq);
+    let csum = number(ipv4::icmp_csum(h, numbers, payload));
+    let ip = flow_ip(
+        ipv4::proto::ICMP,
+        (28 + payload.len()) as u16,
+        0,
+        e.saddr,
+        e.daddr,
+    );
+    let head = h.to_bytes(numbers, csum);
+    put_all(&ip, &head, payload, out);
+}
+
+// From which byte of a payload up to which a piece goes.
+pub struct Span {
+    pub start: usize,
+    pub end: usize,
+}
+
+fn least(a: usize, b: usize) -> usize
+    ensures { λ r. ⌜ r ≡ min a b ⌝ }
+{
+    if a < b { a } else { b }
+}
+
+pub(crate) fn span_of(q: IpPiece, n: usize) -> Span
+    ensures { λ r. ⌜ (r .start ≡ startOf q n) × (r .end ≡ endOf q n) ⌝ }
+{
+    let from = 8 * (q.off as usize);
+    Span {
+        start: least(from, n),
+        end: least(from + 8 * (q.len as usize), n),
+    }
+}
+
+fn flag(on: bool, n: u16) -> u16
+    ensures { λ r. ⌜ (r ≡ bit on n) × (r ≤ n) ⌝ }
+{
+    if on { n } else { 0 }
+}
+
+fn piece_flags(q: IpPiece, more: bool) -> u16
+    requires { ⌜ q .off ≤ 8191 ⌝ }
+    ensures { λ r. ⌜ r ≡ pieceFlags q more ⌝ }
+{
+    let t = q.template;
+    let evil = flag(t.evil, ipv4::flags::EVIL);
+    let df = flag(t.df, ipv4::flags::DF);
+    let mf = flag(more, ipv4::flags::MF);
+    evil + df + mf + q.off
+}
+
+fn piece_ip(q: IpPiece, size: u16, more: bool) -> [u8; 20]
+    requires { ⌜ q .off ≤ 8191 ⌝ }
+    ensures { λ r. ⌜ r ≡ ipHeader (pieceIp q size more) ⌝ }
+{
+    let t = q.template;
+    let ip = ip_hdr {
+        tos: t.tos,
+        tot_len: size,
+        id: t.id,
+        frag_off: piece_flags(q, more),
+        ttl: t.ttl,
+        protocol: t.protocol,
+        saddr: t.saddr,
+        daddr: t.daddr,
+    };
+    ip.to_bytes()
+}
+
+pub(crate) fn piece(q: IpPiece, payload: &[u8], out: &mut [u8])
+    requires { ⌜ (length (now payload) ≤ 65515) × (q .off ≤ 8191) × (sizeOf (Piece q) (length (now payload)) ≤ length (now out)) ⌝ }
+    ensures { λ _. ⌜ now (out .exit) ≡ written (piecePacket q (now (payload .entry))) (now (out .entry)) ⌝ }
+{
+    let n = payload.len();
+    let span = span_of(q, n);
+    let start = span.start;
+    let end = span.end;
+    let ip = piece_ip(q, (20 + (end - start)) as u16, end != n);
+    put(&ip, out);
+    put(&payload[start..end], &mut out[20..]);
+}
+
+pub(crate) fn packet(req: Request, payload: &[u8], out: &mut [u8])
+    requires { ⌜ answerOf req (length (now payload)) (length (now out)) ≡ gives (sizeOf req (length (now payload))) ⌝ }
+    ensures { λ _. ⌜ now (out .exit) ≡ written (packetOf req (now (payload .entry))) (now (out .entry)) ⌝ }
+{
+    match req {
+        Request::Tcp(t) => tcp(t, payload, out),
+        Request::Udp(u) => udp(u, payload, out),
+        Request::Echo(e) => echo(e, payload, out),
+        Request::Piece(q) => piece(q, payload, out),
+    }
+}

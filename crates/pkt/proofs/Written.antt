@@ -1,0 +1,34 @@
+-- Laws of bytes written into a buffer.
+use mathlib.Core.Path.{_≡_, sym, ap, _∙_}
+use Prim.Native.Nat.{ℕ, _-_, _≤_}
+use native.Mathlib.Omega.{arith}
+use mathlib.Core.List.{List, [], _++_, append-assoc, append-nil}
+use lib.ListN.{length, take, drop, length-append, length-drop, drop-of-length-le}
+use lib.Seq.{take-at, drop-at, drop-drop, take-length}
+use borrow.Rule.Slice.PartMut.{midOf, postOf, putMid}
+use Rattle.pkt.specs.Written.{written}
+use Rattle.pkt.proofs.Parts.{mid-tail}
+
+-- what the kit's copy leaves
+pub copy-written : (s d : List ℕ) → take (length s) s ++ drop (length s) d ≡ written s d
+unfolding written
+copy-written s d = rw take-length
+
+pub written-length : (a d : List ℕ) → length a ≤ length d → length (written a d) ≡ length d
+unfolding written
+written-length a d h = simp (length-append, length-drop) (omega arith)
+
+-- Bytes behind those that were written before, as the part from there on is lent: all of them, one after the other.
+written-then : (a b d : List ℕ) (n : ℕ) → length a ≡ n → take n (written a d) ++ written b (drop n (written a d)) ≡ written (a ++ b) d
+unfolding written
+written-then a b d n h =
+    rw (take-at a (drop (length a) d) n h, drop-at a (drop (length a) d) n h, drop-drop, length-append) (sym (append-assoc a b _))
+
+post-tail : (n : ℕ) (d : List ℕ) → postOf n (length d - n) d ≡ []
+post-tail n d = drop-of-length-le (drop n d) {i = length d - n} (omega (arith, length-drop n d))
+
+-- What d₁ holds once b was written into `&mut d₁[n..]`, behind a that was written into d before.
+pub written-behind : (a b₀ b d d₁ e : List ℕ) (n : ℕ) → length a ≡ n → d₁ ≡ written a d → b₀ ≡ b
+    → e ≡ written b₀ (midOf n (length d₁ - n) d₁) → putMid n (length d₁ - n) d₁ e ≡ written (a ++ b) d
+written-behind a b₀ b d d₁ e n h h₁ hb he =
+    rw (he, hb, mid-tail n d₁, post-tail n d₁, append-nil, h₁) (written-then a b d n h)
