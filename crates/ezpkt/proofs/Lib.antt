@@ -1,2 +1,5 @@
 pub mod Deciding
+pub mod Only
+pub mod Sequences
 pub mod Sizes
+pub mod Verifying

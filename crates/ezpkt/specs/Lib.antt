@@ -4,3 +4,4 @@ pub mod Ip4
 pub mod Udp4
 pub mod Icmp4
 pub mod Tcp4
+pub mod Sequence

@@ -1,13 +1,23 @@
--- One answer: a checksum's contract leaves no other.
-use mathlib.Core.Path.{_≡_, ap}
+-- One answer: what an answer says determines it.
+use mathlib.Core.Path.{_≡_, refl, sym, ap, _∙_}
 use Prim.Native.Nat.{ℕ}
-use native.Mathlib.Omega.{arith}
-use Rattle.pkt.specs.Answers.{Answer, sumSays}
+use Rattle.pkt.specs.Answers.{Answer, refused, gives, sumSays}
 use Rattle.pkt.specs.declared.ipv4.Sum.{Sum}
 use Rattle.pkt.specs.declared.ipv4.Sum.the-variants.{Is, Refused}
 
+-- Where an answer can be made again from what it says, two that say the same are the same.
+pub told-once : {A B : Type 0} (says : A → B) (back : B → A) → ((a : A) → back (says a) ≡ a)
+    → (r s : A) (x : B) → says r ≡ x → says s ≡ x → r ≡ s
+told-once says back is r s x p q = sym (is r) ∙ ap back (p ∙ sym q) ∙ is s
+
+sumOf : Answer ℕ → Sum
+sumOf (gives c) = Is c
+sumOf (refused n) = Refused n
+
+sumOf-says : (r : Sum) → sumOf (sumSays r) ≡ r
+unfolding sumOf
+sumOf-says (Is c) = refl
+sumOf-says (Refused n) = refl
+
 pub sum-only : (r s : Sum) (a : Answer ℕ) → sumSays r ≡ a → sumSays s ≡ a → r ≡ s
-sum-only (Is x) (Is y) a p q = let e : x ≡ y = cc in ap Is e
-sum-only (Is x) (Refused y) a p q = let z : _≡_ {A = ℕ} 0 1 = cc in absurd (omega arith)
-sum-only (Refused x) (Is y) a p q = let z : _≡_ {A = ℕ} 0 1 = cc in absurd (omega arith)
-sum-only (Refused x) (Refused y) a p q = let e : x ≡ y = cc in ap Refused e
+sum-only r s a p q = told-once sumSays sumOf sumOf-says r s a p q

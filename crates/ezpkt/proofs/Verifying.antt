@@ -1,0 +1,79 @@
+-- What is built verifies: each packet's IPv4 header, and its transport checksum where it has one.
+use mathlib.Core.Path.{_≡_, refl, sym, ap, _∙_}
+use mathlib.Core.Bool.{Bool, true, false}
+use Prim.Native.Nat.{ℕ, _+_}
+use mathlib.Core.List.{List, [], _∷_, _++_, append-assoc}
+use lib.ListN.{length, take, drop, length-append}
+use lib.Seq.{take-at, drop-at}
+use Rattle.pkt.specs.Answers.{Answer, gives}
+use Rattle.pkt.specs.Rfc1071.{Verifies}
+use Rattle.pkt.specs.Rfc791.{ipHeader}
+use Rattle.pkt.specs.Rfc768.{pseudo, udpHeader, udpChecksum}
+use Rattle.pkt.specs.Rfc9293.{tcpHeader, tcpChecksum}
+use Rattle.pkt.specs.Rfc792.{echoHeader, echoChecksum, icmpNew, echoNew}
+use Rattle.pkt.specs.Written.{written}
+use Rattle.pkt.specs.declared.ipv4.«ip_hdr».{«ip_hdr»}
+use Rattle.pkt.proofs.Bytes.{Bytes}
+use Rattle.pkt.proofs.Headers.{ip-length, ip-verifies, tcp-length, tcp-verifies, udp-length, udp-verifies, echo-verifies}
+use Rattle.ezpkt.specs.Answers.{builtSays, leaves}
+use Rattle.ezpkt.specs.Build.{flowIp, pieceIp, tcpHdr, udpHdr, echoType, tcpPacket, udpPacket, echoPacket, piecePacket, packetOf, answerOf, Answered}
+use Rattle.ezpkt.specs.declared.build.TcpSegment.{TcpSegment}
+use Rattle.ezpkt.specs.declared.build.UdpDatagram.{UdpDatagram}
+use Rattle.ezpkt.specs.declared.build.IcmpEcho.{IcmpEcho}
+use Rattle.ezpkt.specs.declared.build.Request.{Request}
+use Rattle.ezpkt.specs.declared.build.Request.the-variants.{Tcp, Udp, Echo, Piece}
+use Rattle.ezpkt.specs.declared.build.Built.{Built}
+use Rattle.ezpkt.proofs.Deciding.{gives-size}
+use Rattle.ezpkt.proofs.Sizes.{size-is}
+
+-- A packet begins with a header.
+pub headed : (q : Request) (p : List ℕ) → (h : «ip_hdr») × (t : List ℕ) × (packetOf q p ≡ ipHeader h ++ t)
+unfolding tcpPacket udpPacket echoPacket piecePacket
+headed (Tcp t) p = (_, _, refl)
+headed (Udp u) p = (_, _, refl)
+headed (Echo e) p = (_, _, refl)
+headed (Piece q) p = (_, _, refl)
+
+-- The IPv4 header of every packet verifies.
+pub header-verifies : (q : Request) (p : List ℕ) → Verifies (take 20 (packetOf q p))
+header-verifies q p = let (h, t, e) = headed q p in rw (e, take-at (ipHeader h) _ 20 (ip-length h)) (ip-verifies h)
+
+-- what stands behind an IPv4 header
+behind : (h : «ip_hdr») (t : List ℕ) → drop 20 (ipHeader h ++ t) ≡ t
+behind h t = drop-at (ipHeader h) t 20 (ip-length h)
+
+-- A TCP segment's checksum verifies,
+pub tcp-sum-verifies : (t : TcpSegment) (p : List ℕ) → Bytes p → Verifies (pseudo (t .saddr) (t .daddr) 6 (20 + length p) ++ drop 20 (tcpPacket t p))
+unfolding tcpPacket
+tcp-sum-verifies t p bp =
+    rw (behind (flowIp 6 (40 + length p) (t .«frag_off») (t .saddr) (t .daddr))) (tcp-verifies (t .saddr) (t .daddr) p bp (tcpHdr t))
+
+-- a UDP datagram's where one is asked for,
+pub udp-sum-verifies : (u : UdpDatagram) (p : List ℕ) → Bytes p → u .csum ≡ true
+    → Verifies (pseudo (u .saddr) (u .daddr) 17 (8 + length p) ++ drop 20 (udpPacket u p))
+unfolding udpPacket
+udp-sum-verifies u p bp on =
+    rw (behind (flowIp 17 (28 + length p) (u .«frag_off») (u .saddr) (u .daddr)), on)
+    (udp-verifies (u .saddr) (u .daddr) p bp (udpHdr u (length p)))
+
+-- and its field is 0 where none is;
+pub udp-field-zero : (u : UdpDatagram) (p : List ℕ) → u .csum ≡ false
+    → drop 20 (udpPacket u p) ≡ udpHeader (udpHdr u (length p)) 0 ++ p
+unfolding udpPacket
+udp-field-zero u p off = rw (behind (flowIp 17 (28 + length p) (u .«frag_off») (u .saddr) (u .daddr)), off)
+
+-- an echo's verifies with nothing before it.
+pub echo-sum-verifies : (e : IcmpEcho) (p : List ℕ) → Bytes p → Verifies (drop 20 (echoPacket e p))
+unfolding echoPacket
+echo-sum-verifies e p bp =
+    rw (behind (flowIp 1 (28 + length p) 0 (e .saddr) (e .daddr))) (echo-verifies (icmpNew (echoType (e .reply))) (echoNew (e .seq)) p bp)
+
+-- The length answered is the packet's, and the packet stands at the start of the output.
+pub built-packet : (q : Request) (p o o′ : List ℕ) (r : Built) (n : ℕ) → Answered q p o r o′ → builtSays r ≡ gives n
+    → (length (packetOf q p) ≡ n) × (take n o′ ≡ packetOf q p)
+unfolding written
+built-packet q p o o′ r n x e =
+    let a : answerOf q (length p) (length o) ≡ gives n = sym (x .answer) ∙ e in
+    let size : length (packetOf q p) ≡ n = size-is q p ∙ gives-size q (length p) (length o) n a in
+    let w : o′ ≡ written (packetOf q p) o = x .after ∙ ap (λ (s : Answer ℕ). leaves s (packetOf q p) o) a in
+    (size, rw (w, take-at (packetOf q p) _ n size))
