@@ -11,7 +11,8 @@ use Rattle.ezpkt.specs.Ip4.{fragmentOf, tailOf}
 use Rattle.ezpkt.specs.declared.ip4.Template.{Template}
 use Rattle.ezpkt.specs.declared.build.Built.{Built}
 use borrow.Author.Tests.{ltb-false, le-ltb, lt-ltb}
-use Rattle.pkt.specs.Answers.{Answer, refused, gives, sumSays, unlessLong}
+use Rattle.pkt.specs.Answers.{refused, gives, sumSays, unlessLong}
+use Rattle.pkt.proofs.Deciding.{past}
 use Rattle.pkt.specs.declared.ipv4.Sum.{Sum}
 use Rattle.pkt.specs.declared.ipv4.Sum.the-variants.{Is, Refused}
 use Rattle.ezpkt.specs.Answers.{summed}
@@ -27,14 +28,6 @@ summed-is s most n c e h = go s (e ∙ ap (λ (b : Bool). cond b (refused 1) (gi
     go : (s : Sum) → sumSays s ≡ gives c → summed s ≡ c
     go (Is x) q = cc
     go (Refused x) q = let z : _≡_ {A = ℕ} 0 1 = cc in absurd (omega arith)
-
--- One test of a decision: where the whole gives something, the test did not refuse.
-past : (a b x k : ℕ) (rest : Answer ℕ) → cond (ltb a b) (refused x) rest ≡ gives k → (b ≤ a) × (rest ≡ gives k)
-past a b x k rest e = go (ltb a b) refl e
-  where
-    go : (t : Bool) → ltb a b ≡ t → cond t (refused x) rest ≡ gives k → (b ≤ a) × (rest ≡ gives k)
-    go true h q = let z : _≡_ {A = ℕ} 0 1 = cc in absurd (omega arith)
-    go false h q = (ltb-false a b h, q)
 
 pub record Fits (most size n room k : ℕ) : Type 0 where
   pub few : n ≤ most

@@ -11,11 +11,11 @@ use Rattle.pkt.specs.Rfc791.{ipHeader}
 use Rattle.pkt.specs.Rfc768.{pseudo, udpHeader, udpChecksum}
 use Rattle.pkt.specs.Rfc9293.{tcpHeader, tcpChecksum}
 use Rattle.pkt.specs.Rfc792.{echoHeader, echoChecksum, icmpNew, echoNew}
-use Rattle.pkt.specs.Written.{written}
+use Rattle.pkt.specs.Written.{written, leaves}
 use Rattle.pkt.specs.declared.ipv4.«ip_hdr».{«ip_hdr»}
 use Rattle.pkt.proofs.Bytes.{Bytes}
 use Rattle.pkt.proofs.Headers.{ip-length, ip-verifies, tcp-length, tcp-verifies, udp-length, udp-verifies, echo-verifies}
-use Rattle.ezpkt.specs.Answers.{builtSays, leaves}
+use Rattle.ezpkt.specs.Answers.{builtSays}
 use Rattle.ezpkt.specs.Build.{flowIp, pieceIp, tcpHdr, udpHdr, echoType, tcpPacket, udpPacket, echoPacket, piecePacket, packetOf, answerOf, Answered}
 use Rattle.ezpkt.specs.declared.build.TcpSegment.{TcpSegment}
 use Rattle.ezpkt.specs.declared.build.UdpDatagram.{UdpDatagram}
@@ -68,12 +68,17 @@ unfolding echoPacket
 echo-sum-verifies e p bp =
     rw (behind (flowIp 1 (28 + length p) 0 (e .saddr) (e .daddr))) (echo-verifies (icmpNew (echoType (e .reply))) (echoNew (e .seq)) p bp)
 
--- The length answered is the packet's, and the packet stands at the start of the output.
+-- Where a length is answered, the packet stands at the start of the output,
+pub packet-front : (q : Request) (p o o′ : List ℕ) (n : ℕ) → answerOf q (length p) (length o) ≡ gives n
+    → o′ ≡ leaves (answerOf q (length p) (length o)) (packetOf q p) o → take n o′ ≡ packetOf q p
+unfolding written
+packet-front q p o o′ n a e =
+    let size : length (packetOf q p) ≡ n = size-is q p ∙ gives-size q (length p) (length o) n a in
+    rw (e ∙ ap (λ (s : Answer ℕ). leaves s (packetOf q p) o) a, take-at (packetOf q p) _ n size)
+
+-- and that is the packet's length.
 pub built-packet : (q : Request) (p o o′ : List ℕ) (r : Built) (n : ℕ) → Answered q p o r o′ → builtSays r ≡ gives n
     → (length (packetOf q p) ≡ n) × (take n o′ ≡ packetOf q p)
-unfolding written
 built-packet q p o o′ r n x e =
     let a : answerOf q (length p) (length o) ≡ gives n = sym (x .answer) ∙ e in
-    let size : length (packetOf q p) ≡ n = size-is q p ∙ gives-size q (length p) (length o) n a in
-    let w : o′ ≡ written (packetOf q p) o = x .after ∙ ap (λ (s : Answer ℕ). leaves s (packetOf q p) o) a in
-    (size, rw (w, take-at (packetOf q p) _ n size))
+    (size-is q p ∙ gives-size q (length p) (length o) n a, packet-front q p o o′ n a (x .after))

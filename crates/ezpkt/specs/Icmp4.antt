@@ -5,7 +5,7 @@ use mathlib.Core.Bool.{true, false}
 use mathlib.Core.List.{List}
 use lib.ListN.{length}
 use Rattle.pkt.specs.Answers.{Answer, refused, gives}
-use Rattle.ezpkt.specs.Answers.{leaves}
+use Rattle.pkt.specs.Written.{leaves}
 use Rattle.ezpkt.specs.Build.{answerOf, packetOf}
 use Rattle.ezpkt.specs.declared.build.Request.{Request}
 use Rattle.ezpkt.specs.declared.build.Request.the-variants.{Echo}

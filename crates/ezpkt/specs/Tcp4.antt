@@ -7,7 +7,7 @@ use lib.ListN.{length}
 use lib.Dec.{ltb, eqb}
 use Rattle.pkt.specs.Answers.{Answer, refused, gives}
 use Rattle.pkt.specs.Rfc9293.{tcpHeader}
-use Rattle.ezpkt.specs.Answers.{leaves}
+use Rattle.pkt.specs.Written.{leaves}
 use Rattle.ezpkt.specs.Build.{tcpHdr, tcpPacket}
 use Rattle.ezpkt.specs.declared.SocketAddrV4.{SocketAddrV4}
 use Rattle.ezpkt.specs.declared.build.TcpSegment.{TcpSegment}

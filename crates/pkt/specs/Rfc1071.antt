@@ -3,14 +3,14 @@ use Prim.Native.Nat.{ℕ, _+_, _-_, _*_, _/_, _%_}
 use mathlib.Core.Path.{_≡_}
 use mathlib.Core.List.{List, [], _∷_}
 
--- 1, (1): adjacent octets are paired to form 16-bit integers, the first of a pair the high one. 2, (A) and 4.1: with an odd count the
--- last octet is the high one of a pair whose low one is 0.
+-- 1, (1): adjacent octets are paired to form 16-bit integers, the first of a pair the high one. 1, [2]: with an odd count the last octet
+-- is the high one of a pair whose low one is 0.
 unfoldable pub words : List ℕ → List ℕ
 words [] = []
 words (a ∷ []) = (a * 256) ∷ []
 words (a ∷ b ∷ r) = (a * 256 + b) ∷ words r
 
--- 2, (B): the one's complement sum of two 16-bit integers. A carry out of the top is added at the bottom.
+-- 1: one's complement addition, by an end around carry: what overflows at the top is added at the bottom.
 unfoldable pub plus : ℕ → ℕ → ℕ
 plus a b = (a + b) % 65536 + (a + b) / 65536
 

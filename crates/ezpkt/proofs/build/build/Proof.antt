@@ -1,7 +1,8 @@
 -- What is answered was decided before anything was written, and what is written is the packet.
 use Rattle.ezpkt.proofs.Deciding.{gives-size}
 use Rattle.ezpkt.specs.Build.{packetOf}
-use Rattle.ezpkt.specs.Answers.{builtSays, leaves}
+use Rattle.pkt.specs.Written.{leaves}
+use Rattle.ezpkt.specs.Answers.{builtSays}
 use Rattle.pkt.specs.Answers.{Answer, gives}
 use Prim.Native.Nat.{ℕ}
 use mathlib.Core.Path.{sym, ap, _∙_}

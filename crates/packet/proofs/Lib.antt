@@ -1,0 +1,4 @@
+pub mod Headroom
+pub mod Answers
+pub mod HexDump
+pub mod Example

@@ -1,0 +1,3 @@
+pub mod Headroom
+pub mod Dump
+pub mod Answers

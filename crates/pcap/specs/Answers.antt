@@ -1,0 +1,37 @@
+-- What the calls answer, and what they leave in the lent output.
+use Prim.Native.Nat.{ℕ, _+_}
+use mathlib.Core.Path.{_≡_}
+use mathlib.Core.Bool.{cond}
+use mathlib.Core.List.{List}
+use lib.ListN.{length}
+use lib.Dec.{ltb}
+use Rattle.pkt.specs.Answers.{Answer, refused, gives}
+use Rattle.pkt.specs.Written.{leaves}
+use Rattle.pcap.specs.Pcap.{fileHeader, recordBytes}
+use Rattle.pcap.specs.declared.Captured.{Captured}
+use Rattle.pcap.specs.declared.Captured.the-variants.{Bytes, Refused}
+
+abbrev pub capturedSays : Captured → Answer ℕ
+capturedSays (Bytes n) = gives n
+capturedSays (Refused n) = refused n
+
+-- size bytes are written, or there is no room for them
+abbrev pub fitting : ℕ → ℕ → Answer ℕ
+fitting size room = cond (ltb room size) (refused 3) (gives size)
+
+-- Document 01, "Capture 1, 17, 3": the answer for a packet of n bytes, a time's microseconds, and an output of room bytes
+abbrev pub recordAnswer : ℕ → ℕ → ℕ → Answer ℕ
+recordAnswer n usec room = cond (ltb 65535 n) (refused 1) (cond (ltb 999999 usec) (refused 17) (fitting (16 + n) room))
+
+-- The whole promise of a call that writes b into the output o: the one answer and the one output after it.
+pub record Wrote (a : Answer ℕ) (b o : List ℕ) (r : Captured) (o′ : List ℕ) : Type 0 where
+  pub answer : capturedSays r ≡ a
+  pub after : o′ ≡ leaves a b o
+
+-- the file header into the output o
+abbrev pub HeaderWritten : List ℕ → Captured → List ℕ → Type 0
+HeaderWritten o r o′ = Wrote (fitting 24 (length o)) fileHeader o r o′
+
+-- a record of the packet d into the output o
+abbrev pub RecordWritten : ℕ → ℕ → List ℕ → List ℕ → Captured → List ℕ → Type 0
+RecordWritten sec usec d o r o′ = Wrote (recordAnswer (length d) usec (length o)) (recordBytes sec usec d) o r o′

@@ -1,0 +1,3 @@
+pub mod Pcap
+pub mod Answers
+pub mod Read
