@@ -6,7 +6,31 @@ pub const TOO_LONG: u8 = 1;
 pub const BAD_OFFSET: u8 = 2;
 // The lent output is shorter than what is to be written.
 pub const NO_ROOM: u8 = 3;
-// Microseconds above 999,999.
-pub const BAD_TIME: u8 = 17;
+// Fewer bytes than a header or than the total length.
+pub const SHORT: u8 = 4;
+// The first byte is not 0x45.
+pub const NOT_IPV4: u8 = 5;
+// The total length is below that of the header.
+pub const BAD_TOTAL: u8 = 6;
+// The header's checksum does not verify.
+pub const BAD_HEADER: u8 = 7;
+// A piece's key is not the assembly's.
+pub const WRONG_KEY: u8 = 8;
+// MF is set, and the data is not whole blocks.
+pub const NOT_BLOCKS: u8 = 9;
+// A piece ends above 65,515.
+pub const TOO_FAR: u8 = 10;
+// An assembly's buffers or record are out of bounds.
+pub const BAD_ASSEMBLY: u8 = 11;
+// The protocol is not 1, 6 or 17.
+pub const OTHER_PROTOCOL: u8 = 12;
+// The offset is not 0, or MF is set.
+pub const PIECE: u8 = 13;
+// The transport part is shorter than its header, or says another length.
+pub const CUT: u8 = 14;
+// The transport checksum does not verify.
+pub const BAD_SUM: u8 = 15;
 // A headroom record, or a part of a packet, that is not within its bounds.
 pub const BAD_PART: u8 = 16;
+// Microseconds above 999,999.
+pub const BAD_TIME: u8 = 17;

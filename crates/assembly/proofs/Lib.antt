@@ -1,0 +1,15 @@
+pub mod Choice
+pub mod Bits
+pub mod Marks
+pub mod Bytes
+pub mod Blocks
+pub mod Steps
+pub mod Pieces
+pub mod Describes
+pub mod Parts
+pub mod Assembles
+pub mod Calls
+pub mod Carrying
+pub mod Delivers
+pub mod Only
+pub mod Examples

@@ -1,0 +1,10 @@
+pub mod Piece
+pub mod Map
+pub mod Assembly
+pub mod View
+pub mod Answers
+pub mod Carried
+pub mod Cut
+pub mod Calls
+pub mod Demand
+pub mod Packets

@@ -1,0 +1,263 @@
+-- Demand 3 for packets that are built: each is read back as the part of the payload that it was asked for, and those assemble to it.
+use mathlib.Core.Path.{_≡_, refl, sym, ap, _∙_}
+use mathlib.Core.Logic.{_↔_}
+use mathlib.Core.Bool.{Bool, true, false, not}
+use mathlib.Core.List.{List, [], _∷_, _++_, append-assoc, append-nil, List·Memᴰ, List·Memᴰ·head, List·Memᴰ·not-nil, Memᴰ·append-left}
+use Prim.Native.Nat.{ℕ, zero, suc, _+_, _-_, _*_, _≤_, _<_, min}
+use native.Mathlib.Omega.{arith}
+use lib.ListN.{length, take, drop, length-append, length-take, length-drop}
+use lib.Seq.{slice, take-at, drop-at, take-length}
+use lib.Dec.{eqb}
+use borrow.Author.Tests.{eq-eqb}
+use Rattle.pkt.specs.Answers.{Answer, gives}
+use Rattle.pkt.specs.Written.{written}
+use Rattle.pkt.specs.Rfc791.{ipHeader}
+use Rattle.pkt.specs.declared.ipv4.«ip_hdr».{«ip_hdr»}
+use Rattle.pkt.proofs.Headers.{ip-length}
+use Rattle.pkt.specs.Written.{leaves}
+use Rattle.ezpkt.specs.Answers.{builtSays}
+use Rattle.ezpkt.specs.Build.{startOf, endOf, pieceIp, between, piecePacket, packetOf, answerOf, Answered}
+use Rattle.ezpkt.specs.Ip4.{fragmentOf}
+use Rattle.ezpkt.specs.declared.ip4.Template.{Template}
+use Rattle.ezpkt.specs.declared.build.IpPiece.{IpPiece}
+use Rattle.ezpkt.specs.declared.build.Request.{Request}
+use Rattle.ezpkt.specs.declared.build.Built.{Built}
+use Rattle.ezpkt.specs.declared.build.Built.the-variants.{Packet}
+use Rattle.inspect.specs.Header.{readAnswer, dataOf}
+use Rattle.inspect.proofs.Decoding.{Fit, readOf, decoded}
+use Rattle.assembly.specs.declared.Key.{Key}
+use Rattle.assembly.specs.Piece.{Piece, end, Acceptable, _∈_}
+use Rattle.assembly.specs.Assembly.{State, opened, step, run, complete, whole}
+use Rattle.assembly.specs.View.{piece}
+use Rattle.assembly.specs.Cut.{cut, Part, Covers}
+use Rattle.assembly.specs.Answers.{mapped}
+use Rattle.assembly.specs.Carried.{pieceOf, pieceAnswer}
+use Rattle.assembly.specs.Calls.{capacity, mapBytes}
+use Rattle.assembly.specs.Demand as demand
+use Rattle.assembly.proofs.Parts.{cut-whole, cut-past, part-acceptable}
+use Rattle.assembly.proofs.Carrying.{accepted}
+use Rattle.assembly.proofs.Assembles.{assembles-here}
+use Rattle.assembly.proofs.Calls.{shown-yes}
+use Rattle.assembly.proofs.Delivers.{piecesOf, piece-from, piece-in, taken-is, taken-usable, delivers-here}
+use Rattle.demands.specs.Assembling.{Fitting, keyOf, BuiltFrom, by-fragment, by-tail, by-datagram, PastEnd, AllBuilt, Cover, taken, Reassembles}
+use Rattle.demands.proofs.Flags.{flags-most, flags-more, flags-offset}
+
+-- ---- the packet of a piece is read back as that piece
+
+take-none : (n : ℕ) → _≡_ {A = List ℕ} (take n []) []
+take-none zero = refl
+take-none (suc n) = refl
+
+-- the bytes from s up to e, in two ways
+between-slice : (s e : ℕ) (d : List ℕ) → take (e - s) (drop s d) ≡ slice s e d
+between-slice zero e d = let z : e - 0 ≡ e = omega arith in rw z refl
+between-slice (suc s) zero d = let z : 0 - suc s ≡ 0 = omega arith in rw z refl
+between-slice (suc s) (suc e) [] = take-none (suc e - suc s)
+between-slice (suc s) (suc e) (x ∷ d) = let z : suc e - suc s ≡ e - s = omega arith in rw z (between-slice s e d)
+
+module _ (t : Template) (d : List ℕ) (fits : Fitting t) (few : length d ≤ capacity) where
+  module _ (off len : ℕ) (rest : List ℕ) (low : off ≤ 8191) where
+    asked : IpPiece
+    asked = record { template = t; off = off; len = len }
+
+    more : Bool
+    more = not (eqb (endOf asked (length d)) (length d))
+
+    body : List ℕ
+    body = between (startOf asked (length d)) (endOf asked (length d)) d
+
+    header : «ip_hdr»
+    header = pieceIp asked (20 + (endOf asked (length d) - startOf asked (length d))) more
+
+    body-length : length body ≡ endOf asked (length d) - startOf asked (length d)
+    unfolding asked body
+    body-length = simp (length-take, length-drop) (omega arith)
+
+    fit : Fit header
+    unfolding asked header
+    fit =
+        record {
+          tos = fits .tos;
+          total = omega arith;
+          id = fits .id;
+          frag = flags-most asked more low;
+          ttl = fits .ttl;
+          protocol = fits .protocol;
+          saddr = fits .saddr;
+          daddr = fits .daddr;
+        }
+
+    wire : List ℕ
+    wire = ipHeader header ++ (body ++ rest)
+
+    wire-is : packetOf (fragmentOf t off len) d ++ rest ≡ wire
+    unfolding piecePacket asked more body header wire
+    wire-is = append-assoc (ipHeader header) body rest
+
+    read-back : readAnswer wire ≡ gives (readOf header)
+    unfolding header wire
+    read-back = decoded header (body ++ rest) fit (omega arith) (omega (arith, length-append body rest, body-length))
+
+    -- what is read is the cut
+    piece-is : pieceOf wire (readOf header) ≡ cut d off len
+    unfolding asked more body header wire readOf cut
+    piece-is =
+        let n : ℕ = endOf asked (length d) - startOf asked (length d) in
+        let size : 20 + n - 20 ≡ length body = omega (arith, body-length) in
+        let held : dataOf (readOf header) wire ≡ slice (startOf asked (length d)) (endOf asked (length d)) d =
+        ap (take (20 + n - 20)) (drop-at (ipHeader header) (body ++ rest) 20 (ip-length header))
+        ∙ take-at body rest (20 + n - 20) (sym size)
+        ∙ between-slice (startOf asked (length d)) (endOf asked (length d)) d
+        in
+        λ i. piece (flags-offset asked more low i) (flags-more asked more low i) (held i)
+
+    -- A piece that ends within the capacity is accepted, and carries the cut.
+    carried : end (cut d off len) ≤ capacity → pieceAnswer capacity (keyOf t) (packetOf (fragmentOf t off len) d ++ rest) ≡ gives (cut d off len)
+    unfolding asked header readOf
+    carried room =
+        let ok : Acceptable capacity (pieceOf wire (readOf header)) = rw piece-is (record { whole = cut-whole d off len; fits = room }) in
+        ap (pieceAnswer capacity (keyOf t)) wire-is
+        ∙ accepted capacity (keyOf t) wire (readOf header) read-back refl ok
+        ∙ ap gives piece-is
+
+  -- ---- the three calls
+  part-at : (off len : ℕ) → 8 * off ≤ length d → Part d (cut d off len)
+  part-at off len h = record { off = off; len = len; within = h; built = refl }
+
+  pub built-carries : (l : List ℕ) → BuiltFrom t d l → (p : Piece) × Part d p × (pieceAnswer capacity (keyOf t) l ≡ gives p)
+  built-carries l b = go b
+    where
+      cut-at : (off len : ℕ) (rest : List ℕ) → 8 * off ≤ length d → l ≡ packetOf (fragmentOf t off len) d ++ rest
+          → (p : Piece) × Part d p × (pieceAnswer capacity (keyOf t) l ≡ gives p)
+      cut-at off len rest h e =
+          let part = part-at off len h in
+          let low : off ≤ 8191 = omega arith in
+          (cut d off len, part, ap (pieceAnswer capacity (keyOf t)) e ∙ carried off len rest low (part-acceptable capacity d (cut d off len) few part .fits))
+
+      go : BuiltFrom t d l → (p : Piece) × Part d p × (pieceAnswer capacity (keyOf t) l ≡ gives p)
+      go (by-fragment off len rest h e) = cut-at off len rest h e
+      go (by-tail off rest h e) = cut-at off (length d) rest h e
+      go (by-datagram rest e) = cut-at 0 (length d) rest (omega arith) e
+
+  -- ---- lists of them
+  here : (k : Key) → demand.Assembles k capacity mapBytes
+  here k = assembles-here k
+
+  state-is : (ls : List (List ℕ)) → taken t ls ≡ run (opened (keyOf t) capacity mapBytes) (piecesOf capacity (keyOf t) ls)
+  state-is ls = taken-is capacity mapBytes (keyOf t) (omega arith) ls
+
+  module _ (ls : List (List ℕ)) (all : AllBuilt t d ls) where
+    ps : List Piece
+    ps = piecesOf capacity (keyOf t) ls
+
+    parts : demand.Built d ps
+    unfolding ps
+    parts p m =
+        let x = piece-from capacity (keyOf t) ls p m in
+        let y = built-carries (x .0) (all (x .0) (x .1 .handed)) in
+        let z : p ≡ y .0 = cc (x .1 .carries, y .2) in
+        rw z (y .1)
+
+    not-none : 0 < length ls → 0 < length ps
+    unfolding ps
+    not-none = go ls all
+      where
+        go : (ms : List (List ℕ)) → AllBuilt t d ms → 0 < length ms → 0 < length (piecesOf capacity (keyOf t) ms)
+        go [] a h = absurd (omega arith)
+        go (l ∷ ms) a h =
+            let y = built-carries l (a l (List·Memᴰ·head refl)) in
+            mem-length (piece-in capacity (keyOf t) (l ∷ ms) l (y .0) (record { handed = List·Memᴰ·head refl; carries = y .2 }))
+          where
+            mem-length : {p : Piece} {qs : List Piece} → p ∈ qs → 0 < length qs
+            mem-length {p} {qs = []} m = absurd (List·Memᴰ·not-nil m)
+            mem-length {p} {qs = q ∷ qs} m = omega arith
+
+    some-packet : 0 < length ps → 0 < length ls
+    unfolding ps piecesOf
+    some-packet = go ls
+      where
+        go : (ms : List (List ℕ)) → 0 < length (piecesOf capacity (keyOf t) ms) → 0 < length ms
+        go [] h = h
+        go (l ∷ ms) h = omega arith
+
+    covers : Covers ps (length d) ↔ Cover (keyOf t) ls (length d)
+    unfolding ps Covers Cover
+    covers = (
+      λ c j h. let x = c j h in let y = piece-from capacity (keyOf t) ls (x .0) (x .1) in (y .0, x .0, y .1, x .2),
+      λ c j h. let x = c j h in (x .1, piece-in capacity (keyOf t) ls (x .0) (x .1) (x .2), x .3),
+    )
+
+    built-complete : (complete (taken t ls) ≡ true) ↔ ((0 < length ls) × Cover (keyOf t) ls (length d))
+    unfolding ps
+    built-complete =
+        let e = ap complete (state-is ls) in
+        let w = here (keyOf t) .complete-when d few ps parts in (
+          λ h. let x = w .0 (sym e ∙ h) in (some-packet (x .0), covers .0 (x .1)),
+          λ x. e ∙ w .1 (not-none (x .0), covers .1 (x .1)),
+        )
+
+    built-held : complete (taken t ls) ≡ true → whole (taken t ls) ≡ d
+    unfolding ps
+    built-held h = ap whole (state-is ls) ∙ here (keyOf t) .held-whole d few ps parts (sym (ap complete (state-is ls)) ∙ h)
+
+    built-sound : taken t ls .spoilt ≡ false
+    unfolding ps
+    built-sound = ap (λ (s : State). s .spoilt) (state-is ls) ∙ here (keyOf t) .never-spoilt d few ps [] (rw append-nil parts)
+
+  -- ---- the story
+  past-carries : (l : List ℕ) (x : PastEnd t d l) → pieceAnswer capacity (keyOf t) l ≡ gives (cut d (x .off) (x .len))
+  past-carries l x =
+      let low : x .off ≤ 8191 = omega (arith, x .room) in
+      ap (pieceAnswer capacity (keyOf t)) (x .built)
+      ∙ carried (x .off) (x .len) (x .rest) low (omega (arith, cut-past d (x .off) (x .len) (x .past), x .room))
+
+  past-spoils : (l m : List ℕ) (p : Piece) → PastEnd t d l → BuiltFrom t d m → pieceAnswer capacity (keyOf t) m ≡ gives p → p .mf ≡ false
+      → (ls : List (List ℕ)) → List·Memᴰ l ls → List·Memᴰ m ls → taken t ls .spoilt ≡ true
+  past-spoils l m p x b e last ls lm mm =
+      let y = built-carries m b in
+      let z : p ≡ y .0 = cc (e, y .2) in
+      let part : Part d p = rw z (y .1) in
+      delivers-here (keyOf t) .spoilt-when ls .1
+      (record {
+        one = l;
+        other = m;
+        p = cut d (x .off) (x .len);
+        q = p;
+        one-in = record { handed = lm; carries = past-carries l x };
+        other-in = record { handed = mm; carries = e };
+        clash = here (keyOf t) .past-end d (x .off) (x .len) (x .past) p part last;
+      })
+
+  pub reassembles : Reassembles t d
+  reassembles =
+      record {
+        accepted =
+            λ ls l b.
+            let y = built-carries l b in
+            (y .0, y .1, delivers-here (keyOf t) .answers ls l ∙ ap (λ (a : Answer Piece). mapped (step (taken t ls)) a) (y .2));
+        never-spoilt = λ ls later all. built-sound ls (λ l m. all l (Memᴰ·append-left later m));
+        complete-when = λ ls all. built-complete ls all;
+        held =
+            λ ls all h.
+            shown-yes capacity mapBytes (taken t ls) (taken-usable capacity mapBytes (keyOf t) (omega arith) ls) ∙ built-held ls all h;
+        past-end-spoils = past-spoils;
+      }
+
+-- What a call that builds leaves in its buffer is the packet, with what the buffer held behind it.
+pub call-leaves : (q : Request) (d o o′ : List ℕ) (r : Built) (n : ℕ) → Answered q d o r o′ → r ≡ Packet n → o′ ≡ packetOf q d ++ drop (length (packetOf q d)) o
+unfolding written
+call-leaves q d o o′ r n x is =
+    let e : answerOf q (length d) (length o) ≡ gives n = sym (x .answer) ∙ ap builtSays is in
+    x .after ∙ ap (λ (a : Answer ℕ). leaves a (packetOf q d) o) e
+
+-- `tail` carries all from its offset on and says that nothing follows; `datagram` carries the payload.
+pub tail-last : (d : List ℕ) (off : ℕ) → cut d off (length d) .mf ≡ false
+unfolding cut
+tail-last d off = let e : min (8 * off + 8 * length d) (length d) ≡ length d = omega arith in ap not (eq-eqb _ _ e)
+
+pub datagram-all : (d : List ℕ) → cut d 0 (length d) ≡ piece 0 false d
+unfolding cut
+datagram-all d =
+    let e : min (8 * 0 + 8 * length d) (length d) ≡ length d = omega arith in
+    let f : min (8 * 0) (length d) ≡ 0 = omega arith in
+    λ i. piece 0 (tail-last d 0 i) ((ap (λ (k : ℕ). slice k (min (8 * 0 + 8 * length d) (length d)) d) f ∙ ap (λ (k : ℕ). slice 0 k d) e ∙ take-length d) i)

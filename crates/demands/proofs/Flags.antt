@@ -1,0 +1,41 @@
+-- The bits and the offset of a piece's field are read back.
+use mathlib.Core.Path.{_≡_}
+use mathlib.Core.Bool.{Bool, true, false}
+use Prim.Native.Nat.{ℕ, _+_, _*_, _/_, _%_, _≤_, _<_}
+use native.Mathlib.Omega.{arith}
+use lib.Dec.{eqb}
+use borrow.Author.Tests.{eq-eqb, ne-eqb}
+use Rattle.ezpkt.specs.Build.{bit, pieceFlags}
+use Rattle.ezpkt.specs.declared.build.IpPiece.{IpPiece}
+use Rattle.inspect.specs.Header.{hasBit}
+
+ones : Bool → ℕ
+ones b = bit b 1
+
+ones-most : (b : Bool) → ones b ≤ 1
+unfolding ones
+ones-most true = omega arith
+ones-most false = omega arith
+
+bit-is : (b : Bool) (n : ℕ) → bit b n ≡ n * ones b
+unfolding ones
+bit-is true n = omega arith
+bit-is false n = omega arith
+
+test-is : (b : Bool) (x : ℕ) → x ≡ ones b → eqb x 1 ≡ b
+unfolding ones
+test-is true x e = eq-eqb x 1 e
+test-is false x e = ne-eqb x 1 (λ z. omega arith)
+
+flags-is : (q : IpPiece) (m : Bool) → pieceFlags q m ≡ 32768 * ones (q .template .evil) + 16384 * ones (q .template .df) + 8192 * ones m + q .off
+flags-is q m = simp (bit-is (q .template .evil) 32768, bit-is (q .template .df) 16384, bit-is m 8192)
+
+pub flags-most : (q : IpPiece) (m : Bool) → q .off ≤ 8191 → pieceFlags q m < 65536
+flags-most q m h = omega (arith, flags-is q m, ones-most (q .template .evil), ones-most (q .template .df), ones-most m)
+
+pub flags-more : (q : IpPiece) (m : Bool) → q .off ≤ 8191 → hasBit 0x2000 (pieceFlags q m) ≡ m
+flags-more q m h =
+    test-is m (pieceFlags q m / 0x2000 % 2) (omega (arith, flags-is q m, ones-most (q .template .evil), ones-most (q .template .df), ones-most m))
+
+pub flags-offset : (q : IpPiece) (m : Bool) → q .off ≤ 8191 → pieceFlags q m % 0x2000 ≡ q .off
+flags-offset q m h = omega (arith, flags-is q m, ones-most (q .template .evil), ones-most (q .template .df), ones-most m)

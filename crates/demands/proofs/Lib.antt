@@ -1,0 +1,3 @@
+pub mod Assembling
+pub mod Checked
+pub mod Flags

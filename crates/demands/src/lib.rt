@@ -1,0 +1,1 @@
+// What holds across the crates: theorems only, in proofs/.

@@ -1,0 +1,50 @@
+-- Laws of the check's answer.
+use mathlib.Core.Path.{_≡_, refl, ap, _∙_}
+use mathlib.Core.Bool.{Bool, true, false, not, _||_, cond}
+use Prim.Native.Nat.{ℕ, _-_, _≤_}
+use native.Mathlib.Omega.{arith}
+use mathlib.Core.List.{List, _++_}
+use lib.ListN.{length, take}
+use lib.Dec.{ltb, eqb}
+use borrow.Author.Tests.{ltb-false, le-ltb}
+use Rattle.pkt.specs.Answers.{Answer, refused, gives}
+use Rattle.inspect.specs.Answers.{andThen}
+use Rattle.inspect.specs.Header.{fieldAt, totalOf, readAnswer, dataOf}
+use Rattle.inspect.specs.Check.{isCut, sumsAnswer, verdictOf, partAnswer, checkAnswer}
+use Rattle.inspect.specs.declared.header.IpRead.{IpRead}
+use Rattle.inspect.specs.declared.check.Kind.{Kind}
+use Rattle.inspect.proofs.Numbers.{part-front}
+use Rattle.inspect.proofs.Reading.{read-framed, read-total, read-front}
+
+or-false : (a b : Bool) → a || b ≡ false → a ≡ false
+or-false true b e = e
+or-false false b e = refl
+
+-- A part that is not cut has 8 bytes.
+pub not-cut : (p : ℕ) (d : List ℕ) → isCut p d ≡ false → 8 ≤ length d
+not-cut p d e = go (eqb p 6) (eqb p 17) e
+  where
+    go : (t u : Bool)
+        → cond t (ltb (length d) 20 || not (eqb (fieldAt d 12 1) 0x50)) (cond u (ltb (length d) 8 || not (eqb (fieldAt d 4 2) (length d))) (ltb (length d) 8)) ≡ false
+        → 8 ≤ length d
+    go true u q = let h = ltb-false (length d) 20 (or-false (ltb (length d) 20) _ q) in omega arith
+    go false true q = ltb-false (length d) 8 (or-false (ltb (length d) 8) _ q)
+    go false false q = ltb-false (length d) 8 q
+
+-- A part of no more bytes than a packet can have is summed.
+pub sums-short : (k : Kind) (h : IpRead) (d : List ℕ) → length d ≤ 65515 → sumsAnswer k h d ≡ verdictOf k h d
+sums-short k h d s = ap (λ (t : Bool). cond t (refused 1) (verdictOf k h d)) (le-ltb 65515 (length d) s)
+
+-- The check's answer is that of the first bytes, as many as the total length says, whatever is behind them.
+pub check-front : (l r : List ℕ) → 20 ≤ totalOf l → totalOf l ≤ length l → checkAnswer (take (totalOf l) l ++ r) ≡ checkAnswer l
+unfolding checkAnswer
+check-front l r long there = ap (λ (a : Answer IpRead). andThen a (λ h. partAnswer h (dataOf h m))) (read-front l r long there) ∙ go (readAnswer l) refl
+  where
+    m : List ℕ
+    m = take (totalOf l) l ++ r
+
+    go : (a : Answer IpRead) → readAnswer l ≡ a → andThen a (λ h. partAnswer h (dataOf h m)) ≡ andThen a (λ h. partAnswer h (dataOf h l))
+    go (refused n) e = refl
+    go (gives h) e =
+        let f = read-framed l h e in
+        ap (partAnswer h) (part-front (h .start) (h .end - h .start) (totalOf l) l r (omega (arith, read-total l h e)) there)

@@ -1,0 +1,8 @@
+pub mod Choice
+pub mod Numbers
+pub mod Whole
+pub mod Reading
+pub mod Checking
+pub mod Decoding
+pub mod Sent
+pub mod Only

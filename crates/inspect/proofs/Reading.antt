@@ -1,0 +1,138 @@
+-- Laws of the header reader's answer.
+use mathlib.Core.Path.{_≡_, refl, sym, ap, _∙_}
+use mathlib.Core.Bool.{Bool, true, not, cond}
+use Prim.Native.Nat.{ℕ, _+_, _-_, _≤_}
+use native.Mathlib.Omega.{arith}
+use mathlib.Core.List.{List, _++_}
+use lib.ListN.{length, take, length-append, length-take, length-drop}
+use lib.Dec.{ltb, eqb}
+use borrow.Author.Tests.{le-ltb, ltb-false, not-false, eqb-true}
+use Rattle.pkt.specs.Answers.{Answer, refused, gives}
+use Rattle.inspect.specs.Answers.{andThen}
+use Rattle.inspect.specs.Header.{fieldAt, headerOf, totalOf, frameAnswer, verifies, readAnswer, dataOf}
+use Rattle.inspect.specs.declared.header.IpRead.{IpRead}
+use Rattle.pkt.proofs.Bytes.{Bytes}
+use Rattle.inspect.proofs.Choice.{past, held}
+use Rattle.inspect.proofs.Numbers.{field-below, part-front, field-front}
+
+-- What is known of a header h that was read from l, up to its checksum.
+pub record Framed (l : List ℕ) (h : IpRead) : Type 0 where
+  pub first : fieldAt l 0 1 ≡ 0x45
+  pub is : h ≡ headerOf l
+  pub head : 20 ≤ h .start
+  pub short : h .start ≤ 60
+  pub order : h .start ≤ h .end
+  pub all : h .end ≤ length l
+  pub offset : h .off ≤ 8191
+
+pub framed : (l : List ℕ) (h : IpRead) → frameAnswer l ≡ gives h → Framed l h
+unfolding frameAnswer headerOf
+framed l h e =
+    let a = past (ltb (length l) 20) 4 _ h e in
+    let b = past (not (eqb (fieldAt l 0 1) 0x45)) 5 _ h (a .1) in
+    let d = past (ltb (headerOf l .end) (headerOf l .start)) 6 _ h (b .1) in
+    let f = past (ltb (length l) (headerOf l .end)) 4 _ h (d .1) in
+    let q : headerOf l ≡ h = cc (f .1) in
+    record {
+      first = eqb-true (fieldAt l 0 1) 0x45 (not-false (eqb (fieldAt l 0 1) 0x45) (b .0));
+      is = sym q;
+      head = rw (← q) (omega arith);
+      short = rw (← q) (omega arith);
+      order = rw (← q) (ltb-false (headerOf l .end) (headerOf l .start) (d .0));
+      all = rw (← q) (ltb-false (length l) (headerOf l .end) (f .0));
+      offset = rw (← q) (omega arith);
+    }
+
+-- what is asked of a header that was framed
+abbrev pub summed : List ℕ → IpRead → Answer IpRead
+summed l h = cond (verifies (take (h .start) l)) (gives h) (refused 7)
+
+-- A header that was read is framed, and verifies.
+pub was-read : (l : List ℕ) (h : IpRead) → readAnswer l ≡ gives h → (frameAnswer l ≡ gives h) × (verifies (take (h .start) l) ≡ true)
+unfolding readAnswer
+was-read l h e = go (frameAnswer l) e
+  where
+    go : (a : Answer IpRead) → andThen a (summed l) ≡ gives h → (a ≡ gives h) × (verifies (take (h .start) l) ≡ true)
+    go (refused n) q = let z : _≡_ {A = ℕ} 0 1 = cc in absurd (omega arith)
+    go (gives g) q =
+        let w = held (verifies (take (g .start) l)) 7 g h q in
+        (ap gives (w .1), ap (λ (x : IpRead). verifies (take (x .start) l)) (sym (w .1)) ∙ w .0)
+
+pub read-framed : (l : List ℕ) (h : IpRead) → readAnswer l ≡ gives h → Framed l h
+read-framed l h e = framed l h (was-read l h e .0)
+
+-- The total length fits its two bytes.
+pub read-end : (l : List ℕ) (h : IpRead) → Bytes l → readAnswer l ≡ gives h → h .end ≤ 65535
+unfolding headerOf
+read-end l h b e = rw (read-framed l h e .is) (omega (arith, field-below 2 2 l b))
+
+-- The data part has no more bytes than a packet can have behind its header.
+pub read-short : (l : List ℕ) (h : IpRead) → Bytes l → readAnswer l ≡ gives h → length (dataOf h l) ≤ 65515
+read-short l h b e =
+    let f = read-framed l h e in
+    simp (length-take, length-drop) (omega (arith, read-end l h b e))
+
+-- a step of reading: what is framed is read exactly if its header verifies
+pub read-step : (l : List ℕ) (h : IpRead) (t : Bool) → frameAnswer l ≡ gives h → t ≡ verifies (take (h .start - 0) l)
+    → cond t (gives h) (refused 7) ≡ readAnswer l
+unfolding readAnswer
+read-step l h t e v =
+    let z : h .start - 0 ≡ h .start = omega arith in
+    sym (ap (λ (a : Answer IpRead). andThen a (summed l)) e ∙ ap (λ (s : Bool). cond s (gives h) (refused 7)) (ap (λ (k : ℕ). verifies (take k l)) (sym z) ∙ sym v))
+
+-- ---- bytes behind the packet
+
+-- The header's fields stand in the first 20 bytes.
+header-front : (n : ℕ) (l r : List ℕ) → 20 ≤ n → n ≤ length l → headerOf (take n l ++ r) ≡ headerOf l
+unfolding headerOf
+header-front n l r h m =
+    simp (
+      field-front 1 1 n l r (omega arith) m,
+      field-front 2 2 n l r (omega arith) m,
+      field-front 4 2 n l r (omega arith) m,
+      field-front 6 2 n l r (omega arith) m,
+      field-front 8 1 n l r (omega arith) m,
+      field-front 9 1 n l r (omega arith) m,
+      field-front 12 4 n l r (omega arith) m,
+      field-front 16 4 n l r (omega arith) m,
+    )
+
+end-is : (l : List ℕ) → headerOf l .end ≡ totalOf l
+unfolding headerOf
+end-is l = refl
+
+module _ (l r : List ℕ) (long : 20 ≤ totalOf l) (there : totalOf l ≤ length l) where
+  frame-front : frameAnswer (take (totalOf l) l ++ r) ≡ frameAnswer l
+  unfolding frameAnswer
+  frame-front =
+      let n : ℕ = totalOf l in
+      let m : List ℕ = take n l ++ r in
+      let size : length m ≡ n + length r = simp (length-append, length-take) (omega arith) in
+      let a = le-ltb (length m) 20 (omega arith) in
+      let b = le-ltb (length l) 20 (omega arith) in
+      let d = le-ltb (length m) (headerOf l .end) (omega (arith, end-is l)) in
+      let f = le-ltb (length l) (headerOf l .end) (omega (arith, end-is l)) in
+      simp (a, b, field-front 0 1 n l r (omega arith) there, header-front n l r long there, d, f)
+
+  -- The reader's answer is that of the first bytes, as many as the total length says, whatever is behind them.
+  pub read-front : readAnswer (take (totalOf l) l ++ r) ≡ readAnswer l
+  unfolding readAnswer
+  read-front = ap (λ (a : Answer IpRead). andThen a (summed (take (totalOf l) l ++ r))) frame-front ∙ go (frameAnswer l) refl
+    where
+      go : (a : Answer IpRead) → frameAnswer l ≡ a → andThen a (summed (take (totalOf l) l ++ r)) ≡ andThen a (summed l)
+      go (refused n) e = refl
+      go (gives h) e =
+          let f = framed l h e in
+          let n : h .end ≡ totalOf l = ap (λ (g : IpRead). g .end) (f .is) ∙ end-is l in
+          ap (λ (s : List ℕ). cond (verifies s) (gives h) (refused 7)) (part-front 0 (h .start) (totalOf l) l r (omega arith) there)
+
+-- what a header that was read says of its packet's length
+pub read-total : (l : List ℕ) (h : IpRead) → readAnswer l ≡ gives h → h .end ≡ totalOf l
+read-total l h e = ap (λ (g : IpRead). g .end) (read-framed l h e .is) ∙ end-is l
+
+-- A packet that was read is read alike with any other bytes behind it.
+pub read-kept : (l r : List ℕ) (h : IpRead) → readAnswer l ≡ gives h → readAnswer (take (h .end) l ++ r) ≡ gives h
+read-kept l r h e =
+    let f = read-framed l h e in
+    let n = read-total l h e in
+    ap (λ (k : ℕ). readAnswer (take k l ++ r)) n ∙ read-front l r (omega arith) (omega arith) ∙ e

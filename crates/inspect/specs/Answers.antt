@@ -1,0 +1,33 @@
+-- What the answers of reading and checking say, in document 01's terms.
+use Rattle.pkt.specs.Answers.{Answer, refused, gives}
+use Rattle.inspect.specs.declared.header.IpRead.{IpRead}
+use Rattle.inspect.specs.declared.header.Seen.{Seen}
+use Rattle.inspect.specs.declared.header.Seen.the-variants as seen
+use Rattle.inspect.specs.declared.check.Kind.{Kind}
+use Rattle.inspect.specs.declared.check.Found.{Found}
+use Rattle.inspect.specs.declared.check.Found.the-variants as found
+use Rattle.inspect.specs.declared.check.Checked.{Checked}
+use Rattle.inspect.specs.declared.check.Checked.the-variants.{Good, NoChecksum, Refused}
+
+-- one answer, and what follows where it is no refusal
+abbrev pub andThen : {A B : Type 0} → Answer A → (A → Answer B) → Answer B
+andThen (refused n) f = refused n
+andThen (gives a) f = f a
+
+abbrev pub readSays : Seen → Answer IpRead
+readSays (seen.Packet h) = gives h
+readSays (seen.Refused n) = refused n
+
+abbrev pub foundSays : Found → Answer Kind
+foundSays (found.Is k) = gives k
+foundSays (found.Refused n) = refused n
+
+-- "It answers good, good without checksum (UDP field 0), or a refusal."
+pub data Verdict : Type 0 where
+  good : Verdict
+  noChecksum : Verdict
+
+abbrev pub checkedSays : Checked → Answer Verdict
+checkedSays Good = gives good
+checkedSays NoChecksum = gives noChecksum
+checkedSays (Refused n) = refused n

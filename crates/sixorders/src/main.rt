@@ -1,0 +1,246 @@
+// Pieces handed in in every order, and every refusal of an assembly, run: each line is a call and what it answers.
+use assembly::Key;
+use assembly::Opened;
+use assembly::Rec;
+use assembly::Taken;
+use assembly::Total;
+use ezpkt::build;
+use ezpkt::build::Request;
+use ezpkt::build::TcpSegment;
+use ezpkt::ip4;
+use ezpkt::ip4::Template;
+use libc::STDOUT_FILENO;
+
+const CLIENT: u32 = 0x0a000001;
+
+const SERVER: u32 = 0x0a000002;
+
+fn say(words: &[u8]) {
+    io::write_all(STDOUT_FILENO, words);
+}
+
+fn say_number(n: u64) {
+    say(b" ");
+    io::print_decimal(STDOUT_FILENO, n);
+}
+
+fn say_refused(number: u8) {
+    say(b" refused");
+    say_number(number as u64);
+}
+
+fn say_taken(taken: Taken) {
+    match taken {
+        Taken::Waiting(_) => say(b" waiting"),
+        Taken::Complete(_) => say(b" complete"),
+        Taken::Spoilt(_) => say(b" spoilt"),
+        Taken::Refused(number) => say_refused(number),
+    }
+}
+
+// The record after a call: on a refusal the one before it.
+fn kept(rec: Rec, taken: Taken) -> Rec {
+    match taken {
+        Taken::Waiting(next) => next,
+        Taken::Complete(next) => next,
+        Taken::Spoilt(next) => next,
+        Taken::Refused(_) => rec,
+    }
+}
+
+fn say_held(bytes: &[u8]) {
+    if bytes.len() > 0 {
+        say(b", holds ");
+        say(bytes);
+    }
+}
+
+fn key() -> Key {
+    Key {
+        saddr: CLIENT,
+        daddr: SERVER,
+        id: 0,
+    }
+}
+
+fn template() -> Template {
+    Template {
+        tos: 0,
+        id: 0,
+        df: false,
+        evil: false,
+        ttl: 64,
+        protocol: 17,
+        saddr: CLIENT,
+        daddr: SERVER,
+    }
+}
+
+// Builds piece (off, 1) of twenty bytes and hands it in, with what stands behind it in its buffer.
+fn hand(rec: Rec, off: u16, payload: &mut [u8], map: &mut [u8]) -> Rec {
+    let mut out = [0u8; 40];
+    ip4::fragment(template(), b"01234567890123456789", off, 1, &mut out);
+    let taken = assembly::take(rec, &out, payload, map);
+    say_taken(taken);
+    kept(rec, taken)
+}
+
+// Three pieces of twenty bytes, and what is held then.
+fn order(a: u16, b: u16, c: u16) {
+    let mut payload = [0u8; 65515];
+    let mut map = [0u8; 1024];
+    say(b"blocks");
+    say_number(a as u64);
+    say_number(b as u64);
+    say_number(c as u64);
+    say(b":");
+    match assembly::open(key(), &mut payload, &mut map) {
+        Opened::Refused(number) => say_refused(number),
+        Opened::Open(rec) => {
+            let one = hand(rec, a, &mut payload, &mut map);
+            let two = hand(one, b, &mut payload, &mut map);
+            let three = hand(two, c, &mut payload, &mut map);
+            say_held(assembly::held(three, &payload, &map));
+        }
+    }
+    say(b"\n");
+}
+
+fn orders() {
+    order(0, 3, 2);
+    order(0, 2, 3);
+    order(3, 0, 2);
+    order(3, 2, 0);
+    order(2, 0, 3);
+    order(2, 3, 0);
+    order(2, 0, 1);
+}
+
+// Opens an assembly and hands in one packet.
+fn first(packet: &[u8]) {
+    let mut payload = [0u8; 65515];
+    let mut map = [0u8; 1024];
+    match assembly::open(key(), &mut payload, &mut map) {
+        Opened::Refused(number) => say_refused(number),
+        Opened::Open(rec) => say_taken(assembly::take(rec, packet, &mut payload, &mut map)),
+    }
+    say(b"\n");
+}
+
+// A segment of one byte, 41 bytes in all.
+fn segment(saddr: u32, frag_off: u16) -> [u8; 41] {
+    let request = Request::Tcp(TcpSegment {
+        saddr,
+        daddr: SERVER,
+        sport: 40000,
+        dport: 80,
+        seq: 0,
+        ack: 0,
+        flags: 0,
+        frag_off,
+    });
+    let mut out = [0u8; 41];
+    build::build(request, b"!", &mut out);
+    out
+}
+
+fn empty() {
+    let mut out = [0u8; 20];
+    ip4::fragment(template(), b"", 0, 0, &mut out);
+    say(b"all of no bytes:");
+    first(&out);
+}
+
+fn sizes() {
+    let mut payload = [0u8; 65515];
+    let mut map = [0u8; 1023];
+    say(b"a map of 1,023 bytes:");
+    match assembly::open(key(), &mut payload, &mut map) {
+        Opened::Refused(number) => say_refused(number),
+        Opened::Open(_) => say(b" open"),
+    }
+    say(b"\n");
+}
+
+// Hands a segment to an assembly with this total and floor.
+fn record(total: Total, floor: usize) {
+    let mut payload = [0u8; 65515];
+    let mut map = [0u8; 1024];
+    let rec = Rec {
+        key: key(),
+        total,
+        floor,
+        spoilt: false,
+    };
+    let out = segment(CLIENT, 0);
+    say_taken(assembly::take(rec, &out, &mut payload, &mut map));
+    say(b"\n");
+}
+
+fn records() {
+    say(b"total 65,516:");
+    record(Total::Known(65516), 0);
+    say(b"floor 65,514:");
+    record(Total::Unknown, 65514);
+    say(b"floor 65,513:");
+    record(Total::Unknown, 65513);
+}
+
+fn cut_short() {
+    let whole = segment(CLIENT, 0);
+    say(b"19 bytes:");
+    first(&whole[0..19]);
+    say(b"40 of 41 bytes:");
+    first(&whole[0..40]);
+}
+
+fn first_byte() {
+    let mut out = segment(CLIENT, 0);
+    out[0] = 0x46;
+    say(b"first byte 0x46:");
+    first(&out);
+}
+
+fn total_length() {
+    let mut out = segment(CLIENT, 0);
+    out[3] = 19;
+    say(b"total length 19:");
+    first(&out);
+}
+
+fn time_to_live() {
+    let mut out = segment(CLIENT, 0);
+    out[8] = 63;
+    say(b"another TTL under the same checksum:");
+    first(&out);
+}
+
+fn sent(saddr: u32, frag_off: u16) {
+    let out = segment(saddr, frag_off);
+    first(&out);
+}
+
+fn pieces() {
+    say(b"another source:");
+    sent(SERVER, 0);
+    say(b"21 bytes with MF set:");
+    sent(CLIENT, 0x2000);
+    say(b"21 bytes at block 8,187:");
+    sent(CLIENT, 8187);
+    say(b"21 bytes at block 8,186:");
+    sent(CLIENT, 8186);
+    say(b"21 bytes with DF and the reserved bit set:");
+    sent(CLIENT, 0xc000);
+}
+
+fn main() {
+    orders();
+    empty();
+    sizes();
+    records();
+    cut_short();
+    first_byte();
+    total_length();
+    time_to_live();
+    pieces();
+}
