@@ -1,5 +1,4 @@
 pub mod Deciding
 pub mod Only
-pub mod Sequences
 pub mod Sizes
 pub mod Verifying

@@ -3,5 +3,3 @@ pub mod Build
 pub mod Ip4
 pub mod Udp4
 pub mod Icmp4
-pub mod Tcp4
-pub mod Sequence

@@ -2,8 +2,7 @@
 pub mod build;
 pub mod icmp4;
 pub mod ip4;
-mod part;
-pub mod tcp4;
+pub mod part;
 pub mod udp4;
 mod write;
 

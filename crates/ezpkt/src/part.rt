@@ -3,7 +3,7 @@ ghost use mathlib.Core.Path.{_≡_};
 ghost use lib.ListN.{take, drop};
 
 // The first n bytes of s.
-pub(crate) fn front(s: &[u8], n: usize) -> &[u8]
+pub fn front(s: &[u8], n: usize) -> &[u8]
     ensures { λ r. ⌜ now r ≡ take n (now (s .entry)) ⌝ }
 {
     if s.len() < n {
@@ -13,7 +13,7 @@ pub(crate) fn front(s: &[u8], n: usize) -> &[u8]
 }
 
 // The bytes of s from the n-th on.
-pub(crate) fn back(s: &[u8], n: usize) -> &[u8]
+pub fn back(s: &[u8], n: usize) -> &[u8]
     ensures { λ r. ⌜ now r ≡ drop n (now (s .entry)) ⌝ }
 {
     let len = s.len();

@@ -23,7 +23,7 @@ ghost use Rattle.ezpkt.specs.Build.{flowIp, tcpHdr, udpHdr, udpField, ec
 ghost use Rattle.ezpkt.specs.declared.build.Request.the-variants.{Tcp, Udp, Echo, Piece};
 
 // src at the start of dst, whose other bytes stay.
-pub(crate) fn put(src: &[u8], dst: &mut [u8])
+fn put(src: &[u8], dst: &mut [u8])
     requires { ⌜ length (now src) ≤ length (now dst) ⌝ }
     ensures { λ _. ⌜ now (dst .exit) ≡ written (now (src .entry)) (now (dst .entry)) ⌝ }
 {
@@ -64,7 +64,7 @@ fn number(sum: Sum) -> u16
     }
 }
 
-pub(crate) fn tcp(t: TcpSegment, payload: &[u8], out: &mut [u8])
+fn tcp(t: TcpSegment, payload: &[u8], out: &mut [u8])
     requires { ⌜ (length (now payload) ≤ 65495) × (40 + length (now payload) ≤ length (now out)) ⌝ }
     ensures { λ _. ⌜ now (out .exit) ≡ written (tcpPacket t (now (payload .entry))) (now (out .entry)) ⌝ }
 {
@@ -87,7 +87,7 @@ pub(crate) fn tcp(t: TcpSegment, payload: &[u8], out: &mut [u8])
     put_all(&ip, &head, payload, out);
 }
 
-pub(crate) fn udp(u: UdpDatagram, payload: &[u8], out: &mut [u8])
+fn udp(u: UdpDatagram, payload: &[u8], out: &mut [u8])
     requires { ⌜ (length (now payload) ≤ 65507) × (28 + length (now payload) ≤ length (now out)) ⌝ }
     ensures { λ _. ⌜ now (out .exit) ≡ written (udpPacket u (now (payload .entry))) (now (out .entry)) ⌝ }
 {
@@ -130,7 +130,7 @@ fn echo_type(reply: bool) -> u8
     }
 }
 
-pub(crate) fn echo(e: IcmpEcho, payload: &[u8], out: &mut [u8])
+fn echo(e: IcmpEcho, payload: &[u8], out: &mut [u8])
     requires { ⌜ (length (now payload) ≤ 65507) × (28 + length (now payload) ≤ length (now out)) ⌝ }
     ensures { λ _. ⌜ now (out .exit) ≡ written (echoPacket e (now (payload .entry))) (now (out .entry)) ⌝ }
 {
@@ -205,7 +205,7 @@ fn piece_ip(q: IpPiece, size: u16, more: bool) -> [u8; 20]
     ip.to_bytes()
 }
 
-pub(crate) fn piece(q: IpPiece, payload: &[u8], out: &mut [u8])
+fn piece(q: IpPiece, payload: &[u8], out: &mut [u8])
     requires { ⌜ (length (now payload) ≤ 65515) × (q .off ≤ 8191) × (sizeOf (Piece q) (length (now payload)) ≤ length (now out)) ⌝ }
     ensures { λ _. ⌜ now (out .exit) ≡ written (piecePacket q (now (payload .entry))) (now (out .entry)) ⌝ }
 {

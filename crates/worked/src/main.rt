@@ -6,15 +6,15 @@ use ezpkt::build::Request;
 use ezpkt::build::TcpSegment;
 use ezpkt::ip4;
 use ezpkt::ip4::Template;
-use ezpkt::tcp4::Sent;
-use ezpkt::tcp4::Seq;
-use ezpkt::tcp4::TcpFlow;
 use libc::STDOUT_FILENO;
 use pkt::ipv4;
 use pkt::ipv4::Sum;
 use pkt::ipv4::ip_hdr;
 use pkt::ipv4::tcp_hdr;
 use pkt::ipv4::udp_hdr;
+use tcp4::Sent;
+use tcp4::Seq;
+use tcp4::TcpFlow;
 
 const CLIENT: u32 = 0x0a000001;
 

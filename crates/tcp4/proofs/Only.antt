@@ -1,0 +1,32 @@
+-- One outcome: each contract leaves one answer and one buffer.
+use mathlib.Core.Path.{_≡_, refl, sym, _∙_}
+use Prim.Native.Nat.{ℕ}
+use mathlib.Core.List.{List, [], _∷_}
+use Rattle.pkt.specs.Answers.{Answer, refused, gives}
+use Rattle.pkt.proofs.Only.{told-once}
+use Rattle.tcp4.specs.Tcp4.{Emit, Gone, Sends, sentSays}
+use Rattle.tcp4.specs.declared.TcpFlow.{TcpFlow}
+use Rattle.tcp4.specs.declared.Sent.{Sent}
+use Rattle.tcp4.specs.declared.Sent.the-variants.{One, Two, Three, Refused}
+
+-- the answer with these ends; there are one, two or three
+sentWith : TcpFlow → List ℕ → Sent
+sentWith f [] = Refused 0
+sentWith f (a ∷ []) = One f a
+sentWith f (a ∷ b ∷ []) = Two f a b
+sentWith f (a ∷ b ∷ c ∷ r) = Three f a b c
+
+sentOf : Answer Gone → Sent
+sentOf (gives g) = sentWith (g .flow) (g .ends)
+sentOf (refused n) = Refused n
+
+sentOf-says : (r : Sent) → sentOf (sentSays r) ≡ r
+unfolding sentOf sentWith
+sentOf-says (One f a) = refl
+sentOf-says (Two f a b) = refl
+sentOf-says (Three f a b c) = refl
+sentOf-says (Refused n) = refl
+
+pub sends-only : (f : TcpFlow) (es : List Emit) (o o₁ o₂ : List ℕ) (r s : Sent) → Sends f es o r o₁ → Sends f es o s o₂
+    → (r ≡ s) × (o₁ ≡ o₂)
+sends-only f es o o₁ o₂ r s x y = (told-once sentSays sentOf sentOf-says r s _ (x .answer) (y .answer), x .after-it ∙ sym (y .after-it))

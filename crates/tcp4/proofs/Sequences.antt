@@ -1,0 +1,89 @@
+-- The sequence law: after any calls a side's number is its start and what was consumed since then, modulo 2^32.
+use mathlib.Core.Path.{_≡_, refl, sym, ap, _∙_}
+use mathlib.Core.Bool.{Bool, true, false, cond}
+use mathlib.Core.List.{List, [], _∷_}
+use Prim.Native.Nat.{ℕ, _+_, _%_}
+use native.Mathlib.Omega.{arith}
+use lib.ListN.{length}
+use lib.Dec.{ltb}
+use Rattle.pkt.specs.Answers.{Answer, refused, gives}
+use Rattle.tcp4.specs.Tcp4.{Emit, Gone, consumed, advance, after, afterAll, anyLong, sizeAll, endsFrom, sendAnswer, popped, sentSays, Sends}
+use Rattle.tcp4.specs.Sequence.{Call, sends, hole, header, state, called, calledAll, seqOf, Count, mine, sentBy, sideOf, counted, countBy, countedAll, begun, flowBy}
+use Rattle.tcp4.specs.declared.TcpFlow.{TcpFlow}
+use Rattle.tcp4.specs.declared.Side.{Side}
+use Rattle.tcp4.specs.declared.Side.the-variants.{Client, Server}
+use Rattle.tcp4.specs.declared.Seq.{Seq}
+use Rattle.tcp4.specs.declared.Seq.the-variants.{Is, Nothing}
+use Rattle.tcp4.specs.declared.Sent.{Sent}
+
+-- the number that a count comes to
+abbrev pub Counts : ℕ → Count → Type 0
+Counts n k = n % 4294967296 ≡ (k .start + k .since) % 4294967296
+
+moved : (x n a b : ℕ) → x % 4294967296 ≡ (a + b) % 4294967296 → (x + n) % 4294967296 % 4294967296 ≡ (a + (b + n)) % 4294967296
+moved x n a b h = omega arith
+
+stayed : (x a b : ℕ) → x % 4294967296 ≡ (a + b) % 4294967296 → x % 4294967296 ≡ (a + (b + 0)) % 4294967296
+stayed x a b h = omega arith
+
+-- moving on a side counts for that side alone
+advanced : (w s : Side) (n : ℕ) (f : TcpFlow) (k : Count) → Counts (seqOf w f) k
+    → Counts (seqOf w (advance s n f)) (record { start = k .start; since = k .since + mine w s n })
+advanced Client Client n f k h = moved (f .«cl_seq») n (k .start) (k .since) h
+advanced Client Server n f k h = stayed (f .«cl_seq») (k .start) (k .since) h
+advanced Server Client n f k h = stayed (f .«sv_seq») (k .start) (k .since) h
+advanced Server Server n f k h = moved (f .«sv_seq») n (k .start) (k .since) h
+
+-- packets one after the other
+emitted : (w : Side) (es : List Emit) (f : TcpFlow) (k : Count) → Counts (seqOf w f) k
+    → Counts (seqOf w (afterAll f es)) (record { start = k .start; since = k .since + sentBy w es })
+emitted w [] f k h = stayed (seqOf w f) (k .start) (k .since) h
+emitted w (e ∷ es) f k h =
+    let n : ℕ = mine w (e .side) (consumed (e .flags) (length (e .body))) in
+    let one = advanced w (e .side) (consumed (e .flags) (length (e .body))) f k h in
+    let rest = emitted w es (after f e) (record { start = k .start; since = k .since + n }) one in
+    let s : k .since + n + sentBy w es ≡ k .since + (n + sentBy w es) = omega arith in
+    rw s at rest
+
+-- a call
+counts : (w : Side) (c : Call) (f : TcpFlow) (k : Count) → Counts (seqOf w f) k → Counts (seqOf w (called c f)) (counted w c f k)
+counts w (sends es room) f k h = go (anyLong es) (ltb room (sizeAll es))
+  where
+    all : Answer Gone
+    all = gives (record { flow = afterAll f es; ends = endsFrom 0 es })
+
+    go : (long short : Bool)
+        → Counts (seqOf w (flowBy (cond long (refused 1) (cond short (refused 3) all)) f))
+        (countBy (cond long (refused 1) (cond short (refused 3) all)) (sentBy w es) k)
+    go true short = h
+    go false true = h
+    go false false = emitted w es f k h
+counts w (hole s n) f k h = advanced w s n f k h
+counts w (header s n) f k h = advanced w s n f k h
+counts Client (state (Is n) s) f k h = let e : n + 0 ≡ n = omega arith in ap (λ (x : ℕ). x % 4294967296) (sym e)
+counts Client (state Nothing s) f k h = h
+counts Server (state c (Is n)) f k h = let e : n + 0 ≡ n = omega arith in ap (λ (x : ℕ). x % 4294967296) (sym e)
+counts Server (state c Nothing) f k h = h
+
+countsAll : (w : Side) (cs : List Call) (f : TcpFlow) (k : Count) → Counts (seqOf w f) k → Counts (seqOf w (calledAll cs f)) (countedAll w cs f k)
+countsAll w [] f k h = h
+countsAll w (c ∷ cs) f k h = countsAll w cs (called c f) (counted w c f k) (counts w c f k h)
+
+-- "After accepted calls a side's number equals its start plus its payload bytes, SYNs, FINs, holes and the `dlen` of its header-only
+-- calls since then." Refused calls change nothing.
+pub sequence-law : (w : Side) (cs : List Call) (f : TcpFlow) → Counts (seqOf w (calledAll cs f)) (countedAll w cs f (begun w f))
+sequence-law w cs f =
+    let e : seqOf w f + 0 ≡ seqOf w f = omega arith in
+    countsAll w cs f (begun w f) (ap (λ (x : ℕ). x % 4294967296) (sym e))
+
+-- The flow after a call that keeps its promise is the call's.
+pub sent-flow : (f : TcpFlow) (es : List Emit) (o : List ℕ) (r : Sent) (o′ : List ℕ) → Sends f es o r o′
+    → flowBy (sentSays r) f ≡ called (sends es (length o)) f
+sent-flow f es o r o′ x = ap (λ (a : Answer Gone). flowBy a f) (x .answer)
+
+-- "Acknowledgments and resets consume nothing."
+pub ack-consumes : consumed 0x10 0 ≡ 0
+ack-consumes = refl
+
+pub reset-consumes : consumed 0x04 0 ≡ 0
+reset-consumes = refl

@@ -1,0 +1,2 @@
+pub mod Tcp4
+pub mod Sequence

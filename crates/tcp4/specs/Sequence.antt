@@ -1,0 +1,89 @@
+-- The sequence numbers of a flow over many calls: document 01, 'Sequence state'.
+use Prim.Native.Nat.{ℕ, _+_}
+use mathlib.Core.Bool.{cond}
+use mathlib.Core.List.{List, [], _∷_}
+use lib.ListN.{length}
+use Rattle.pkt.specs.Answers.{Answer, refused, gives}
+use Rattle.tcp4.specs.Tcp4.{Emit, Gone, consumed, advance, sendAnswer, popped}
+use Rattle.tcp4.specs.declared.TcpFlow.{TcpFlow}
+use Rattle.tcp4.specs.declared.Side.{Side}
+use Rattle.tcp4.specs.declared.Side.the-variants.{Client, Server}
+use Rattle.tcp4.specs.declared.Seq.{Seq}
+use Rattle.tcp4.specs.declared.Seq.the-variants.{Is, Nothing}
+
+-- A call on a flow: packets into a buffer with so much room, a hole, a header alone with its dlen, a state pushed or popped.
+pub data Call : Type 0 where
+  sends : List Emit → ℕ → Call
+  hole : Side → ℕ → Call
+  header : Side → ℕ → Call
+  state : Seq → Seq → Call
+
+-- the flow that an answer gives, or on a refusal the flow before
+abbrev pub flowBy : Answer Gone → TcpFlow → TcpFlow
+flowBy (gives g) f = g .flow
+flowBy (refused n) f = f
+
+-- the flow after a call, and after several
+abbrev pub called : Call → TcpFlow → TcpFlow
+called (sends es room) f = flowBy (sendAnswer f es room) f
+called (hole s n) f = advance s n f
+called (header s n) f = advance s n f
+called (state c s) f = popped f c s
+
+abbrev pub calledAll : List Call → TcpFlow → TcpFlow
+calledAll [] f = f
+calledAll (c ∷ cs) f = calledAll cs (called c f)
+
+-- a side's number
+abbrev pub seqOf : Side → TcpFlow → ℕ
+seqOf Client f = f .«cl_seq»
+seqOf Server f = f .«sv_seq»
+
+-- What is counted for a side: the number it started from, and what was consumed since then.
+pub record Count : Type 0 where
+  pub start : ℕ
+  pub since : ℕ
+
+abbrev pub more : ℕ → Count → Count
+more n k = record { start = k .start; since = k .since + n }
+
+-- a number n for the side s counts for the side w if they are the same
+abbrev pub mine : Side → Side → ℕ → ℕ
+mine Client Client n = n
+mine Server Server n = n
+mine Client Server n = 0
+mine Server Client n = 0
+
+-- payload bytes, SYNs and FINs of a side's packets
+abbrev pub sentBy : Side → List Emit → ℕ
+sentBy w [] = 0
+sentBy w (e ∷ es) = mine w (e .side) (consumed (e .flags) (length (e .body))) + sentBy w es
+
+-- accepted packets count, refused ones do not
+abbrev pub countBy : Answer Gone → ℕ → Count → Count
+countBy (gives g) n k = more n k
+countBy (refused x) n k = k
+
+-- a new start, if there is one
+abbrev pub restart : Seq → Count → Count
+restart (Is n) k = record { start = n; since = 0 }
+restart Nothing k = k
+
+abbrev pub sideOf : Side → Seq → Seq → Seq
+sideOf Client c s = c
+sideOf Server c s = s
+
+-- the count after a call on the flow f, and after several
+abbrev pub counted : Side → Call → TcpFlow → Count → Count
+counted w (sends es room) f k = countBy (sendAnswer f es room) (sentBy w es) k
+counted w (hole s n) f k = more (mine w s n) k
+counted w (header s n) f k = more (mine w s n) k
+counted w (state c s) f k = restart (sideOf w c s) k
+
+abbrev pub countedAll : Side → List Call → TcpFlow → Count → Count
+countedAll w [] f k = k
+countedAll w (c ∷ cs) f k = countedAll w cs (called c f) (counted w c f k)
+
+-- the count of a new flow, or of one whose number was just set
+abbrev pub begun : Side → TcpFlow → Count
+begun w f = record { start = seqOf w f; since = 0 }
