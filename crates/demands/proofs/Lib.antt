@@ -1,3 +1,4 @@
 pub mod Assembling
 pub mod Checked
 pub mod Flags
+pub mod Worked
