@@ -14,7 +14,7 @@ use lib.Dec.{eqb}
 use borrow.Author.Tests.{eqb-true, eqb-false, eq-eqb, ne-eqb, not-true, not-false}
 use Rattle.assembly.specs.Map.{bit}
 use Rattle.assembly.specs.Assembly.{byteClash, unlike}
-use Rattle.assembly.proofs.Choice.{or-cases, or-no, and-both, and-no}
+use Rattle.pkt.proofs.Choice.{or-cases, or-no, and-both, and-no}
 
 -- ---- what the test tells
 pub record ClashAt (d m : List ℕ) (k : ℕ) (xs : List ℕ) : Type 0 where

@@ -4,9 +4,10 @@ use mathlib.Core.List.{List, [], _∷_, _++_, append-nil, append-assoc}
 use Prim.Native.Nat.{ℕ, suc, _+_, _-_, _≤_, _<_}
 use native.Mathlib.Decide.{ℕ-discrete}
 use native.Mathlib.Omega.{arith}
-use lib.ListN.{length, getD, set, take, drop, replicate, length-set, length-drop, length-replicate, drop-of-length-le}
-use lib.Seq.{sets, length-sets, sets-eq, getD-set-same, getD-set-other, ext-getD, take-all, take-length, drop-drop}
-use borrow.Rule.Slice.PartMut.{midOf, postOf, putMid}
+use lib.ListN.{length, getD, set, take, drop, replicate, length-set, length-replicate}
+use lib.Seq.{sets, length-sets, sets-eq, getD-set-same, getD-set-other, ext-getD, take-length, drop-drop}
+use borrow.Rule.Slice.PartMut.{midOf, putMid}
+use Rattle.pkt.proofs.Parts.{mid-tail, post-tail}
 use Rattle.assembly.specs.Map.{zeros}
 use Rattle.assembly.proofs.Marks.{getD-zeros}
 
@@ -55,12 +56,6 @@ fill-zeros l =
         ∙ sym (getD-zeros (length l) k)
 
 -- ---- a copy onto `&mut d[at..]`
-pub mid-tail : (n : ℕ) (d : List ℕ) → midOf n (length d - n) d ≡ drop n d
-mid-tail n d = take-all (length d - n) (drop n d) (omega (arith, length-drop n d))
-
-post-tail : (n : ℕ) (d : List ℕ) → postOf n (length d - n) d ≡ []
-post-tail n d = drop-of-length-le (drop n d) {i = length d - n} (omega (arith, length-drop n d))
-
 pub copied : (d xs e : List ℕ) (at : ℕ) → at + length xs ≤ length d
     → e ≡ take (length xs) xs ++ drop (length xs) (midOf at (length d - at) d)
     → putMid at (length d - at) d e ≡ sets d at xs

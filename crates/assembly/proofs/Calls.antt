@@ -20,7 +20,7 @@ use Rattle.assembly.specs.View.{view, recordOf}
 use Rattle.assembly.specs.Answers.{openedSays, takenSays, replyOf, mapped, payloadAfter, mapAfter, Moved}
 use Rattle.assembly.specs.Carried.{pieceAnswer}
 use Rattle.assembly.specs.Calls.{sized, usable, openAnswer, Opens, takeAnswer, Takes, shown}
-use Rattle.assembly.proofs.Choice.{and-both, pick-yes, pick-no}
+use Rattle.pkt.proofs.Choice.{and-both, pick-yes, pick-no}
 use Rattle.assembly.proofs.Steps.{record-of}
 
 module _ (C M : ℕ) where

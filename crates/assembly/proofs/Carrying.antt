@@ -11,13 +11,13 @@ use Rattle.pkt.specs.Answers.{Answer, refused, gives}
 use Rattle.inspect.specs.Answers.{andThen}
 use Rattle.inspect.specs.Header.{readAnswer, dataOf}
 use Rattle.inspect.specs.declared.header.IpRead.{IpRead}
-use Rattle.inspect.proofs.Choice.{past}
+use Rattle.pkt.proofs.Deciding.{past}
 use Rattle.inspect.proofs.Reading.{read-framed}
 use Rattle.assembly.specs.declared.Key.{Key}
 use Rattle.assembly.specs.Piece.{Piece, end, Acceptable}
 use Rattle.assembly.specs.Answers.{mapped}
 use Rattle.assembly.specs.Carried.{keyOf, sameKey, pieceOf, broken, fitAnswer, judgeAnswer, headAnswer, pieceAnswer}
-use Rattle.assembly.proofs.Choice.{and-no, and-both, pick-yes, pick-no}
+use Rattle.pkt.proofs.Choice.{and-no, and-both, pick-yes, pick-no}
 
 -- what is asked of a header that was read
 abbrev judged : ℕ → Key → List ℕ → Answer IpRead → Answer IpRead

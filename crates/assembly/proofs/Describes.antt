@@ -16,7 +16,7 @@ use Rattle.assembly.specs.declared.Key.{Key}
 use Rattle.assembly.specs.Map.{bit, mark}
 use Rattle.assembly.specs.Piece.{Piece, start, end, Holds, byteAt, Contradict, differ, two-ends, more-after, after-more, Acceptable, _∈_, Contradictory, Same}
 use Rattle.assembly.specs.Assembly.{State, cleared, opened, byteClash, endClash, clashes, newTotal, newFloor, accept, step, run}
-use Rattle.assembly.proofs.Choice.{or-cases, or-no, both}
+use Rattle.pkt.proofs.Choice.{or-cases, or-no, both}
 use Rattle.assembly.proofs.Marks.{IsMap, map-mark, bit-mark-out, bit-mark-in, map-ext, getD-zeros, map-zeros, bit-zeros}
 use Rattle.assembly.proofs.Bytes.{getD-sets-out, getD-sets-in}
 use Rattle.assembly.proofs.Blocks.{ClashAt, byteClash-true, byteClash-false}

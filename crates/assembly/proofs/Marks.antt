@@ -14,7 +14,7 @@ use lib.Pow.{pow-pos, pow-lt}
 use borrow.Author.Tests.{eqb-true, eq-eqb}
 use lib.Dec.{eqb}
 use Rattle.assembly.specs.Map.{bit, setBit, mark, marked, zeros}
-use Rattle.assembly.proofs.Choice.{and-both, both, fails}
+use Rattle.pkt.proofs.Choice.{and-both, both, fails}
 use Rattle.assembly.proofs.Bits.{or-bit, pow-bit-same, pow-bit-other, ones-bit, byte-ext}
 
 -- a list of M bytes

@@ -14,7 +14,7 @@ use Rattle.assembly.specs.Piece.{Piece, end, Holds, byteAt, Contradict, 
 use Rattle.assembly.specs.Map.{marked}
 use Rattle.assembly.specs.Assembly.{State, opened, run, heldTo, complete}
 use Rattle.assembly.specs.Cut.{cut, Part, Covers}
-use Rattle.assembly.proofs.Choice.{and-both}
+use Rattle.pkt.proofs.Choice.{and-both}
 use Rattle.assembly.proofs.Marks.{marked-true, marked-of}
 use Rattle.assembly.proofs.Pieces.{Some, None, any, holds?}
 use Rattle.assembly.proofs.Describes.{Good, Describes, spoiled, sound, run-describes}

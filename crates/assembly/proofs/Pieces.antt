@@ -6,7 +6,7 @@ use Prim.Native.Nat.{ℕ, _*_, _/_, _≤_, _<_}
 use native.Mathlib.Decide.{decLe, decLt}
 use native.Mathlib.Omega.{arith}
 use Rattle.assembly.specs.Piece.{Piece, start, end, Holds, Contradict, differ, two-ends, more-after, after-more, _∈_, Contradictory, Same}
-use Rattle.assembly.proofs.Choice.{both}
+use Rattle.pkt.proofs.Choice.{both}
 
 pub Same·sym : {ps qs : List Piece} → Same ps qs → Same qs ps
 Same·sym s = record { to = s .from; from = s .to }

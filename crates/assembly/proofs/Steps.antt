@@ -16,7 +16,7 @@ use Rattle.assembly.specs.View.{totalOf, view, knownOf, recordOf}
 use Rattle.assembly.specs.Answers.{reply, replyOf, takenSays, Moved}
 use Rattle.assembly.specs.Piece.{Piece, start, end}
 use Rattle.assembly.specs.Assembly.{State, cleared, clashes, endClash, byteClash, accept, step, heldTo, outcome, isWaiting, isComplete, isSpoilt, newTotal, totalFits, complete, bytesBelow, whole}
-use Rattle.assembly.proofs.Choice.{pick-yes, pick-no}
+use Rattle.pkt.proofs.Choice.{pick-yes, pick-no}
 
 module _ (s : State) (p : Piece) where
   pub step-spoilt : s .spoilt ≡ true → step s p ≡ s

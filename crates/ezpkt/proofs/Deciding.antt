@@ -1,18 +1,17 @@
 -- Laws of the decision before a packet is written: what an answer tells of sizes and bounds.
-use mathlib.Core.Path.{_≡_, refl, sym, ap, _∙_}
-use mathlib.Core.Bool.{Bool, true, false, cond}
+use mathlib.Core.Path.{_≡_, ap, _∙_}
+use mathlib.Core.Bool.{Bool, cond}
 use Prim.Native.Nat.{ℕ, _+_, _%_, _≤_}
 use native.Mathlib.Omega.{arith}
-use lib.Dec.{ltb}
 use lib.ListN.{length}
 use mathlib.Core.List.{List}
 use native.Mathlib.Decide.{decLe}
 use Rattle.ezpkt.specs.Ip4.{fragmentOf, tailOf}
 use Rattle.ezpkt.specs.declared.ip4.Template.{Template}
 use Rattle.ezpkt.specs.declared.build.Built.{Built}
-use borrow.Author.Tests.{ltb-false, le-ltb, lt-ltb}
+use borrow.Author.Tests.{le-ltb, lt-ltb}
 use Rattle.pkt.specs.Answers.{refused, gives, sumSays, unlessLong}
-use Rattle.pkt.proofs.Deciding.{past}
+use Rattle.pkt.proofs.Deciding.{bounded}
 use Rattle.pkt.specs.declared.ipv4.Sum.{Sum}
 use Rattle.pkt.specs.declared.ipv4.Sum.the-variants.{Is, Refused}
 use Rattle.ezpkt.specs.Answers.{summed}
@@ -36,15 +35,15 @@ pub record Fits (most size n room k : ℕ) : Type 0 where
 
 pub sized-fits : (most head n room k : ℕ) → sizedAnswer most head n room ≡ gives k → Fits most (head + n) n room k
 sized-fits most head n room k e =
-    let a = past most n 1 k _ e in
-    let b = past room (head + n) 3 k _ (a .1) in
+    let a = bounded most n 1 k _ e in
+    let b = bounded room (head + n) 3 k _ (a .1) in
     record { few = a .0; room-for = b .0; is-size = (let q : head + n ≡ k = cc (b .1) in q) }
 
 pub piece-fits : (q : IpPiece) (n room k : ℕ) → pieceAnswer q n room ≡ gives k → (q .off ≤ 8191) × Fits 65515 (sizeOf (Piece q) n) n room k
 piece-fits q n room k e =
-    let a = past 65515 n 1 k _ e in
-    let b = past 8191 (q .off) 2 k _ (a .1) in
-    let d = past room (sizeOf (Piece q) n) 3 k _ (b .1) in
+    let a = bounded 65515 n 1 k _ e in
+    let b = bounded 8191 (q .off) 2 k _ (a .1) in
+    let d = bounded room (sizeOf (Piece q) n) 3 k _ (b .1) in
     (b .0, record { few = a .0; room-for = d .0; is-size = (let z : sizeOf (Piece q) n ≡ k = cc (d .1) in z) })
 
 -- An answer that gives a length gives the packet's.

@@ -1,4 +1,3 @@
-pub mod Choice
 pub mod Numbers
 pub mod Whole
 pub mod Reading

@@ -12,7 +12,7 @@ use Rattle.inspect.specs.Answers.{andThen}
 use Rattle.inspect.specs.Header.{fieldAt, headerOf, totalOf, frameAnswer, verifies, readAnswer, dataOf}
 use Rattle.inspect.specs.declared.header.IpRead.{IpRead}
 use Rattle.pkt.proofs.Bytes.{Bytes}
-use Rattle.inspect.proofs.Choice.{past, held}
+use Rattle.pkt.proofs.Deciding.{past, held}
 use Rattle.inspect.proofs.Numbers.{field-below, part-front, field-front}
 
 -- What is known of a header h that was read from l, up to its checksum.

@@ -1,7 +1,7 @@
 -- What the encoders send is good, behind any header that names its protocol and its addresses.
 use mathlib.Core.Path.{_≡_, refl, sym, ap, _∙_}
-use mathlib.Core.Bool.{Bool, true, false, not, cond}
-use Prim.Native.Nat.{ℕ, zero, suc, _+_, _≤_, _<_}
+use mathlib.Core.Bool.{Bool, true, false, cond}
+use Prim.Native.Nat.{ℕ, _+_, _≤_, _<_}
 use native.Mathlib.Omega.{arith}
 use mathlib.Core.List.{List, [], _++_}
 use lib.ListN.{length, take, drop, length-append}
@@ -9,7 +9,7 @@ use borrow.Author.Tests.{le-ltb, eq-eqb, ne-eqb}
 use Rattle.pkt.specs.Answers.{Answer, refused, gives}
 use Rattle.pkt.specs.Fields.{field, widths}
 use Rattle.pkt.specs.Rfc1071.{words, sum, checksum}
-use Rattle.pkt.specs.Rfc768.{pseudo, nonzero, udpFields, udpHeader, udpChecksum}
+use Rattle.pkt.specs.Rfc768.{pseudo, udpFields, udpHeader, udpChecksum}
 use Rattle.pkt.specs.Rfc9293.{tcpFields, tcpHeader, tcpChecksum}
 use Rattle.pkt.specs.Rfc792.{echoHeader, echoChecksum}
 use Rattle.pkt.specs.declared.ipv4.«tcp_hdr».{«tcp_hdr»}
@@ -17,6 +17,7 @@ use Rattle.pkt.specs.declared.ipv4.«udp_hdr».{«udp_hdr»}
 use Rattle.pkt.specs.declared.ipv4.«icmp_hdr».{«icmp_hdr»}
 use Rattle.pkt.specs.declared.ipv4.«icmp_echo_hdr».{«icmp_echo_hdr»}
 use Rattle.pkt.proofs.Bytes.{Bytes}
+use Rattle.pkt.proofs.Checksum.{checksum-most, nonzero-range}
 use Rattle.pkt.proofs.Fields.{field-at}
 use Rattle.pkt.proofs.Headers.{tcp-length, udp-length, echo-length, tcp-verifies, udp-verifies, echo-verifies}
 use Rattle.inspect.specs.Answers.{andThen, Verdict, good, noChecksum}
@@ -75,15 +76,6 @@ udp-whole u c p len few =
     simp (long, same)
 
 -- A UDP checksum that is sent fits its field, and is not 0.
-nonzero-range : (c : ℕ) → c ≤ 65535 → (1 ≤ nonzero c) × (nonzero c ≤ 65535)
-unfolding nonzero
-nonzero-range zero h = (omega arith, omega arith)
-nonzero-range (suc c) h = (omega arith, h)
-
-checksum-most : (l : List ℕ) → checksum l ≤ 65535
-unfolding checksum
-checksum-most l = omega arith
-
 udp-checksum-most : (s d : ℕ) (u : «udp_hdr») (p : List ℕ) → udpChecksum s d u p ≤ 65535
 unfolding udpChecksum
 udp-checksum-most s d u p = nonzero-range _ (checksum-most _) .1

@@ -16,7 +16,7 @@ use Rattle.pkt.proofs.Bytes.{Bytes, bytes-append}
 use Rattle.pkt.proofs.Fields.{fields-bytes}
 use Rattle.pkt.proofs.Checksum.{sum-total, canon-most}
 use Rattle.inspect.specs.Header.{isZero, verifies}
-use Rattle.inspect.proofs.Choice.{same-test}
+use Rattle.pkt.proofs.Choice.{same-test}
 
 sum-most : (l : List ℕ) → Bytes l → sum (words l) ≤ 65535
 sum-most l h = rw (sum-total l h) (canon-most (total l))

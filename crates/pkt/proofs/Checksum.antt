@@ -194,10 +194,15 @@ canon-whole-nonzero n = go (65535 - canon n) refl
         ap canon (sym s) ∙ sym (canon-add 65535 n) ∙ ap (λ (k : ℕ). canon (65535 + k)) w
     go (suc c) e = rw (← e) (canon-whole n)
 
-nonzero-most : (c : ℕ) → c ≤ 65535 → nonzero c ≤ 65535
+-- A checksum that is sent fits its field, and for UDP is not 0.
+pub checksum-most : (l : List ℕ) → checksum l ≤ 65535
+unfolding checksum
+checksum-most l = omega arith
+
+pub nonzero-range : (c : ℕ) → c ≤ 65535 → (1 ≤ nonzero c) × (nonzero c ≤ 65535)
 unfolding nonzero
-nonzero-most zero h = omega arith
-nonzero-most (suc c) h = h
+nonzero-range zero h = (omega arith, omega arith)
+nonzero-range (suc c) h = (omega arith, h)
 
 field-total : (c : ℕ) (r : List ℕ) → c ≤ 65535 → total (be 2 c ++ r) ≡ c + total r
 unfolding total
@@ -237,7 +242,7 @@ module _ (p r : List ℕ) (even : length p % 2 ≡ 0) (bp : Bytes p) (br : Bytes
   verifies-nonzero =
       let n : ℕ = total (around p 0 r) in
       let e : checksum (around p 0 r) ≡ 65535 - canon n = checksum-total (around p 0 r) (around-bytes 0) in
-      rw e (around-verifies (nonzero (65535 - canon n)) (nonzero-most (65535 - canon n) (omega arith)) (canon-whole-nonzero n))
+      rw e (around-verifies (nonzero (65535 - canon n)) (nonzero-range (65535 - canon n) (omega arith) .1) (canon-whole-nonzero n))
 
 -- ---- three parts, of which the first two have even lengths
 

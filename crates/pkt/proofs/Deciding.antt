@@ -7,10 +7,16 @@ use lib.Dec.{ltb}
 use borrow.Author.Tests.{ltb-false}
 use Rattle.pkt.specs.Answers.{Answer, refused, gives}
 
--- One test of a decision: where the whole gives something, the test did not refuse.
-pub past : {A : Type 0} (a b x : ℕ) (k : A) (rest : Answer A) → cond (ltb a b) (refused x) rest ≡ gives k → (b ≤ a) × (rest ≡ gives k)
-past {A} a b x k rest e = go (ltb a b) refl e
-  where
-    go : (t : Bool) → ltb a b ≡ t → cond t (refused x) rest ≡ gives k → (b ≤ a) × (rest ≡ gives k)
-    go true h q = let z : _≡_ {A = ℕ} 0 1 = cc in absurd (omega arith)
-    go false h q = (ltb-false a b h, q)
+-- One test of a decision: where the whole gives something, the test did not refuse,
+pub past : {A : Type 0} (t : Bool) (x : ℕ) (rest : Answer A) (a : A) → cond t (refused x) rest ≡ gives a → (t ≡ false) × (rest ≡ gives a)
+past true x rest a e = let z : _≡_ {A = ℕ} 0 1 = cc in absurd (omega arith)
+past false x rest a e = (refl, e)
+
+-- and one that gives where it holds did hold.
+pub held : {A : Type 0} (t : Bool) (x : ℕ) (b a : A) → cond t (gives b) (refused x) ≡ gives a → (t ≡ true) × (b ≡ a)
+held true x b a e = (refl, cc)
+held false x b a e = let z : _≡_ {A = ℕ} 0 1 = cc in absurd (omega arith)
+
+-- A bound that was not passed.
+pub bounded : {A : Type 0} (a b x : ℕ) (k : A) (rest : Answer A) → cond (ltb a b) (refused x) rest ≡ gives k → (b ≤ a) × (rest ≡ gives k)
+bounded a b x k rest e = let t = past (ltb a b) x rest k e in (ltb-false a b (t .0), t .1)

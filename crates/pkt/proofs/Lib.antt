@@ -1,5 +1,6 @@
 pub mod Bytes
 pub mod Checksum
+pub mod Choice
 pub mod Deciding
 pub mod Fields
 pub mod Headers

@@ -1,15 +1,15 @@
 -- Laws of bytes written into a buffer.
-use mathlib.Core.Path.{_≡_, refl, sym, ap, _∙_}
+use mathlib.Core.Path.{_≡_, refl, sym, ap}
 use Prim.Native.Nat.{ℕ, zero, suc, _+_, _-_, _≤_, _<_}
 use native.Mathlib.Omega.{arith}
 use native.Mathlib.Nat.{le-of-suc-le-suc}
 use native.Mathlib.Numerals.{add-one}
 use mathlib.Core.List.{List, [], _∷_, _++_, append-assoc, append-nil}
-use lib.ListN.{length, getD, set, take, drop, length-append, length-drop, drop-of-length-le}
+use lib.ListN.{length, getD, set, take, drop, length-append, length-drop}
 use lib.Seq.{take-at, drop-at, drop-drop, take-length}
-use borrow.Rule.Slice.PartMut.{midOf, postOf, putMid}
+use borrow.Rule.Slice.PartMut.{midOf, putMid}
 use Rattle.pkt.specs.Written.{written}
-use Rattle.pkt.proofs.Parts.{mid-tail}
+use Rattle.pkt.proofs.Parts.{mid-tail, post-tail}
 
 -- a copy that is done up to the end
 pub copy-done : (s d : List ℕ) (i : ℕ) → i ≡ length s → take i s ++ drop i d ≡ written s d
@@ -29,9 +29,6 @@ pub written-then : (a b d : List ℕ) (n : ℕ) → length a ≡ n → take n (w
 unfolding written
 written-then a b d n h =
     rw (take-at a (drop (length a) d) n h, drop-at a (drop (length a) d) n h, drop-drop, length-append) (sym (append-assoc a b _))
-
-post-tail : (n : ℕ) (d : List ℕ) → postOf n (length d - n) d ≡ []
-post-tail n d = drop-of-length-le (drop n d) {i = length d - n} (omega (arith, length-drop n d))
 
 -- What d₁ holds once b was written into `&mut d₁[n..]`, behind a that was written into d before.
 pub written-behind : (a b₀ b d d₁ e : List ℕ) (n : ℕ) → length a ≡ n → d₁ ≡ written a d → b₀ ≡ b

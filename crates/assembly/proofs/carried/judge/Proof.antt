@@ -2,7 +2,7 @@
 use mathlib.Core.Path.{sym, ap, _∙_}
 use Rattle.assembly.specs.declared.Key.{Key}
 use Rattle.assembly.specs.Carried.{sameKey, judgeAnswer}
-use Rattle.assembly.proofs.Choice.{pick-yes, pick-no}
+use Rattle.pkt.proofs.Choice.{pick-yes, pick-no}
 use borrow.Author.Needs.{needs}
 use Rattle.assembly.proofs.carried.judge.Statement.{statement}
 use Rattle.assembly.proofs.carried.judge.Tie as tie

@@ -1,7 +1,10 @@
--- What `||` and `&&` of two tests tell of each.
+-- What tests, and `||` and `&&` of two, tell; and what is chosen by them.
 use mathlib.Core.Path.{_≡_, refl, sym, _∙_}
 use mathlib.Core.Logic.{_⊎_, inl, inr}
 use mathlib.Core.Bool.{Bool, true, false, _&&_, _||_, cond, true≢false}
+use Prim.Native.Nat.{ℕ}
+use lib.Dec.{eqb}
+use borrow.Author.Tests.{eqb-true, eqb-false, eq-eqb, ne-eqb}
 
 pub or-cases : (a b : Bool) → (a || b) ≡ true → (a ≡ true) ⊎ (b ≡ true)
 or-cases true b e = inl refl
@@ -34,3 +37,11 @@ pick-yes x y e = rw e refl
 
 pub pick-no : {A : Type 0} {b : Bool} (x y : A) → b ≡ false → cond b x y ≡ y
 pick-no x y e = rw e refl
+
+-- Two tests for equality are one where each tells the other.
+pub same-test : (a b c d : ℕ) → (a ≡ b → c ≡ d) → (c ≡ d → a ≡ b) → eqb a b ≡ eqb c d
+same-test a b c d f g = go (eqb c d) refl
+  where
+    go : (t : Bool) → eqb c d ≡ t → eqb a b ≡ t
+    go true e = eq-eqb a b (g (eqb-true c d e))
+    go false e = ne-eqb a b (λ q. eqb-false c d e (f q))
