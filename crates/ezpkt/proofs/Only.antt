@@ -1,5 +1,5 @@
 -- One outcome: each contract leaves one answer and one buffer.
-use mathlib.Core.Path.{_≡_, refl, sym, ap, _∙_}
+use mathlib.Core.Path.{_≡_, refl, sym, _∙_}
 use Prim.Native.Nat.{ℕ}
 use mathlib.Core.List.{List}
 use Rattle.pkt.specs.Answers.{Answer, refused, gives}
@@ -23,8 +23,11 @@ unfolding builtOf
 builtOf-says (Packet n) = refl
 builtOf-says (Refused n) = refl
 
+pub answer-only : (r s : Built) (a : Answer ℕ) → builtSays r ≡ a → builtSays s ≡ a → r ≡ s
+answer-only r s a p q = told-once builtSays builtOf builtOf-says r s a p q
+
 pub built-only : (q : Request) (p o o₁ o₂ : List ℕ) (r s : Built) → Answered q p o r o₁ → Answered q p o s o₂ → (r ≡ s) × (o₁ ≡ o₂)
-built-only q p o o₁ o₂ r s x y = (told-once builtSays builtOf builtOf-says r s _ (x .answer) (y .answer), x .after ∙ sym (y .after))
+built-only q p o o₁ o₂ r s x y = (answer-only r s _ (x .answer) (y .answer), x .after ∙ sym (y .after))
 
 echoOf : Answer icmp.Gone → Echo.Sent
 echoOf (gives g) = echo.Packet (g .flow) (g .size)

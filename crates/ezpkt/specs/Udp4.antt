@@ -2,9 +2,13 @@
 use Prim.Native.Nat.{ℕ}
 use Rattle.ezpkt.specs.declared.SocketAddrV4.{SocketAddrV4}
 use Rattle.ezpkt.specs.declared.build.UdpDatagram.{UdpDatagram}
+use Rattle.ezpkt.specs.declared.udp4.UdpFlow.{UdpFlow}
 use Rattle.ezpkt.specs.declared.udp4.Choices.{Choices}
 use Rattle.ezpkt.specs.declared.udp4.SrcIp.{SrcIp}
 use Rattle.ezpkt.specs.declared.udp4.SrcIp.the-variants.{Own, Other}
+
+abbrev pub newFlow : SocketAddrV4 → SocketAddrV4 → UdpFlow
+newFlow cl sv = record { cl = cl; sv = sv }
 
 -- the source address: the flow's, or the one chosen
 abbrev pub sourceOf : ℕ → SrcIp → ℕ

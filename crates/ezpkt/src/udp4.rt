@@ -6,7 +6,7 @@ use crate::build::Request;
 use crate::build::UdpDatagram;
 use crate::part;
 ghost use Rattle.ezpkt.specs.Build.{Answered};
-ghost use Rattle.ezpkt.specs.Udp4.{dgramOf, sourceOf};
+ghost use Rattle.ezpkt.specs.Udp4.{newFlow, dgramOf, sourceOf};
 ghost use mathlib.Core.Path.{_≡_};
 ghost use lib.ListN.{take, drop};
 ghost use Rattle.ezpkt.specs.declared.build.Request.the-variants.{Udp};
@@ -54,7 +54,7 @@ fn dgram(from: SocketAddrV4, to: SocketAddrV4, choices: Choices) -> UdpDatagram
 
 impl UdpFlow {
     pub fn new(cl: SocketAddrV4, sv: SocketAddrV4) -> Self
-        ensures { λ r. ⌜ (r .cl ≡ cl) × (r .sv ≡ sv) ⌝ }
+        ensures { λ r. ⌜ r ≡ newFlow cl sv ⌝ }
     {
         Self { cl, sv }
     }
