@@ -1,4 +1,5 @@
 pub mod Assembling
 pub mod Checked
 pub mod Flags
+pub mod Refusals
 pub mod Worked

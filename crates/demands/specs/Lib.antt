@@ -1,2 +1,3 @@
 pub mod Assembling
+pub mod Refusals
 pub mod Worked

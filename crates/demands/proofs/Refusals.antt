@@ -1,0 +1,78 @@
+-- Demand 1's refusals: a contract tells what is left by the answer, and by a refusal that is what was there.
+use mathlib.Core.Path.{_≡_, refl, sym, ap, ap₂, _∙_}
+use mathlib.Core.List.{List}
+use Prim.Native.Nat.{ℕ}
+use native.Mathlib.Omega.{arith}
+use lib.ListN.{length}
+use Rattle.pkt.specs.Answers.{Answer, refused, gives}
+use Rattle.pkt.specs.Written.{leaves}
+use Rattle.ezpkt.specs.Build.{answerOf, packetOf}
+use Rattle.ezpkt.specs.Icmp4.{withFlow}
+use Rattle.ezpkt.specs.declared.icmp4.IcmpFlow.{IcmpFlow}
+use Rattle.packet.specs.Answers.{afterMade, afterPushed, afterCopied}
+use Rattle.packet.specs.declared.Made.{Made}
+use Rattle.packet.specs.declared.Made.the-variants as made
+use Rattle.packet.specs.declared.Pushed.{Pushed}
+use Rattle.packet.specs.declared.Pushed.the-variants as pushed
+use Rattle.packet.specs.declared.Copied.{Copied}
+use Rattle.packet.specs.declared.Copied.the-variants as copied
+use Rattle.assembly.specs.Assembly.{State}
+use Rattle.assembly.specs.View.{view, recordOf}
+use Rattle.assembly.specs.Answers.{replyOf, mapped, payloadAfter, mapAfter}
+use Rattle.assembly.specs.Calls.{openAnswer, takeAnswer}
+use Rattle.demands.specs.Refusals.{RefusedKeep}
+
+-- a refusal stays one under what is made of the answer
+mapped-refused : {A B : Type 0} (f : A → B) (a : Answer A) (n : ℕ) → refused n ≡ mapped f a → refused n ≡ a
+mapped-refused f (gives x) n e = let z : _≡_ {A = ℕ} 0 1 = cc in absurd (omega arith)
+mapped-refused f (refused m) n e = cc
+
+flow-refused : (f : IcmpFlow) (a : Answer ℕ) (n : ℕ) → refused n ≡ withFlow f a → refused n ≡ a
+flow-refused f (gives x) n e = let z : _≡_ {A = ℕ} 0 1 = cc in absurd (omega arith)
+flow-refused f (refused m) n e = cc
+
+-- what a refusal leaves of an output, of a payload buffer and of a map
+left : {A : Type 0} (a : Answer A) (n : ℕ) (k o o′ : List ℕ) → refused n ≡ a → o′ ≡ leaves a k o → o′ ≡ o
+left a n k o o′ e q = q ∙ ap (λ b. leaves b k o) (sym e)
+
+payload-left : (a : Answer State) (n : ℕ) (d d′ : List ℕ) → refused n ≡ a → d′ ≡ payloadAfter a d → d′ ≡ d
+payload-left a n d d′ e q = q ∙ ap (λ b. payloadAfter b d) (sym e)
+
+map-left : (a : Answer State) (n : ℕ) (m m′ : List ℕ) → refused n ≡ a → m′ ≡ mapAfter a m → m′ ≡ m
+map-left a n m m′ e q = q ∙ ap (λ b. mapAfter b m) (sym e)
+
+-- and of a packet's buffer
+made-left : (a : Made) (n : ℕ) (x b b′ : List ℕ) → made.Refused n ≡ a → b′ ≡ afterMade a x b → b′ ≡ b
+made-left a n x b b′ e q = q ∙ ap (λ r. afterMade r x b) (sym e)
+
+pushed-left : (a : Pushed) (n : ℕ) (x b b′ : List ℕ) → pushed.Refused n ≡ a → b′ ≡ afterPushed a x b → b′ ≡ b
+pushed-left a n x b b′ e q = q ∙ ap (λ r. afterPushed r x b) (sym e)
+
+copied-left : (a : Copied) (n : ℕ) (x o o′ : List ℕ) → copied.Refused n ≡ a → o′ ≡ afterCopied a x o → o′ ≡ o
+copied-left a n x o o′ e q = q ∙ ap (λ r. afterCopied r x o) (sym e)
+
+pub refused-keep : RefusedKeep
+refused-keep =
+    record {
+      building = λ q p o o′ n x. left _ n _ o o′ (x .answer) (x .after);
+      echoing =
+          λ q f own p o o′ n x.
+          let a = answerOf q (length p) (length o) in
+          (left a n (packetOf q p) o o′ (flow-refused f a n (x .answer)) (x .after), refl);
+      sending = λ f es o o′ n x. (left _ n _ o o′ (x .answer) (x .after-it), refl);
+      opening =
+          λ C M k d m d′ m′ n x.
+          let a = openAnswer C M k (length d) (length m) in
+          let e = mapped-refused recordOf a n (x .answer) in
+          (payload-left a n d d′ e (x .payload-is), map-left a n m m′ e (x .map-is));
+      taking =
+          λ C M r d m l d′ m′ n x.
+          let a = takeAnswer C M (view r d m) l in
+          let e = mapped-refused replyOf a n (x .answer) in
+          ap₂ (view r) (payload-left a n d d′ e (x .payload-is)) (map-left a n m m′ e (x .map-is));
+      making = λ h b b′ n x. made-left _ n _ b b′ (x .answer) (x .after);
+      appending = λ p k d b b′ n x. pushed-left _ n _ b b′ (x .answer) (x .after);
+      prepending = λ p d b b′ n x. pushed-left _ n _ b b′ (x .answer) (x .after);
+      copying = λ ok k d o o′ n x. copied-left _ n _ o o′ (x .answer) (x .after);
+      capturing = λ a b o o′ n x. left a n b o o′ (x .answer) (x .after);
+    }

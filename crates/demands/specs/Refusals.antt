@@ -1,0 +1,62 @@
+-- Demand 1: "A refused call changes no lent byte, no flow and no assembly."
+use mathlib.Core.Path.{_≡_}
+use mathlib.Core.Bool.{Bool}
+use mathlib.Core.List.{List}
+use Prim.Native.Nat.{ℕ}
+use Rattle.pkt.specs.Answers.{Answer}
+use Rattle.ezpkt.specs.Build.{Answered}
+use Rattle.ezpkt.specs.Icmp4.{Echoed}
+use Rattle.tcp4.specs.Tcp4.{Emit, sentSays, Sends}
+use Rattle.tcp4.specs.Sequence.{flowBy}
+use Rattle.ezpkt.specs.declared.build.Request.{Request}
+use Rattle.ezpkt.specs.declared.build.Built.the-variants as built
+use Rattle.ezpkt.specs.declared.icmp4.IcmpFlow.{IcmpFlow}
+use Rattle.ezpkt.specs.declared.icmp4.Sent.the-variants as echo
+use Rattle.ezpkt.specs.declared.icmp4.Sent as icmp
+use Rattle.tcp4.specs.declared.TcpFlow.{TcpFlow}
+use Rattle.tcp4.specs.declared.Sent.the-variants as sent
+use Rattle.assembly.specs.declared.Key.{Key}
+use Rattle.assembly.specs.declared.Rec.{Rec}
+use Rattle.assembly.specs.declared.Opened.the-variants as opened
+use Rattle.assembly.specs.declared.Taken.the-variants as taken
+use Rattle.assembly.specs.View.{view}
+use Rattle.assembly.specs.Answers.{takenSays, recAfter}
+use Rattle.assembly.specs.Calls.{Opens, Takes}
+use Rattle.packet.specs.Answers.{Opened, Appended, Prepended, CopiedOut}
+use Rattle.packet.specs.declared.Packet.{Packet}
+use Rattle.packet.specs.declared.Made.the-variants as made
+use Rattle.packet.specs.declared.Pushed.the-variants as pushed
+use Rattle.packet.specs.declared.Copied.the-variants as copied
+use Rattle.pcap.specs.Answers.{Wrote}
+use Rattle.pcap.specs.declared.Captured.the-variants as captured
+
+-- The flow that a caller has after an answer: the one that is handed back. A refusal hands none back, and the caller still has its own.
+abbrev pub echoFlow : icmp.Sent → IcmpFlow → IcmpFlow
+echoFlow (echo.Packet f n) own = f
+echoFlow (echo.Refused n) own = own
+
+-- Every call that is lent bytes to write, or that is handed a flow or an assembly, by the contract that it has. A number n is refused.
+pub record RefusedKeep : Type 0 where
+  -- `build`, `fragment`, `tail`, `datagram`, `client_dgram`, `server_dgram`: the output
+  pub building : (q : Request) (p o o′ : List ℕ) (n : ℕ) → Answered q p o (built.Refused n) o′ → o′ ≡ o
+  -- `echo`, `echo_reply`: the output and the flow
+  pub echoing : (q : Request) (f own : IcmpFlow) (p o o′ : List ℕ) (n : ℕ) → Echoed q f p o (echo.Refused n) o′
+      → (o′ ≡ o) × (echoFlow (echo.Refused n) own ≡ own)
+  -- the calls of `TcpFlow` that send: the output and the flow
+  pub sending : (f : TcpFlow) (es : List Emit) (o o′ : List ℕ) (n : ℕ) → Sends f es o (sent.Refused n) o′
+      → (o′ ≡ o) × (flowBy (sentSays (sent.Refused n)) f ≡ f)
+  -- `open` of an assembly: both buffers
+  pub opening : (C M : ℕ) (k : Key) (d m d′ m′ : List ℕ) (n : ℕ) → Opens C M k d m (opened.Refused n) d′ m′ → (d′ ≡ d) × (m′ ≡ m)
+  -- `take`: the record and both buffers
+  pub taking : (C M : ℕ) (r : Rec) (d m l d′ m′ : List ℕ) (n : ℕ) → Takes C M (view r d m) l (taken.Refused n) d′ m′
+      → view (recAfter (takenSays (taken.Refused n)) r) d′ m′ ≡ view r d m
+  -- `Packet::new`: the buffer
+  pub making : (h : ℕ) (b b′ : List ℕ) (n : ℕ) → Opened h b (made.Refused n) b′ → b′ ≡ b
+  -- `push_slice`, `push_bytes`, `push_hdr`, `push`: the buffer
+  pub appending : (p : Packet) (k : ℕ) (d b b′ : List ℕ) (n : ℕ) → Appended p k d b (pushed.Refused n) b′ → b′ ≡ b
+  -- `lower_headroom_for`: the buffer
+  pub prepending : (p : Packet) (d b b′ : List ℕ) (n : ℕ) → Prepended p d b (pushed.Refused n) b′ → b′ ≡ b
+  -- `to_vec`, `to_vec_from`, `hex_dump`: the output
+  pub copying : (ok : Bool) (k : ℕ) (d o o′ : List ℕ) (n : ℕ) → CopiedOut ok k d o (copied.Refused n) o′ → o′ ≡ o
+  -- `write_header`, `write_record`: the output
+  pub capturing : (a : Answer ℕ) (b o o′ : List ℕ) (n : ℕ) → Wrote a b o (captured.Refused n) o′ → o′ ≡ o
