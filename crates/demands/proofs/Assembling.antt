@@ -10,19 +10,13 @@ use lib.Seq.{slice, take-at, drop-at, take-length}
 use lib.Dec.{eqb}
 use borrow.Author.Tests.{eq-eqb}
 use Rattle.pkt.specs.Answers.{Answer, gives}
-use Rattle.pkt.specs.Written.{written}
 use Rattle.pkt.specs.Rfc791.{ipHeader}
 use Rattle.pkt.specs.declared.ipv4.«ip_hdr».{«ip_hdr»}
 use Rattle.pkt.proofs.Headers.{ip-length}
-use Rattle.pkt.specs.Written.{leaves}
-use Rattle.ezpkt.specs.Answers.{builtSays}
-use Rattle.ezpkt.specs.Build.{startOf, endOf, pieceIp, between, piecePacket, packetOf, answerOf, Answered}
+use Rattle.ezpkt.specs.Build.{startOf, endOf, pieceIp, between, piecePacket, packetOf}
 use Rattle.ezpkt.specs.Ip4.{fragmentOf}
 use Rattle.ezpkt.specs.declared.ip4.Template.{Template}
 use Rattle.ezpkt.specs.declared.build.IpPiece.{IpPiece}
-use Rattle.ezpkt.specs.declared.build.Request.{Request}
-use Rattle.ezpkt.specs.declared.build.Built.{Built}
-use Rattle.ezpkt.specs.declared.build.Built.the-variants.{Packet}
 use Rattle.inspect.specs.Header.{readAnswer, dataOf}
 use Rattle.inspect.proofs.Decoding.{Fit, readOf, decoded}
 use Rattle.assembly.specs.declared.Key.{Key}
@@ -39,7 +33,8 @@ use Rattle.assembly.proofs.Carrying.{accepted}
 use Rattle.assembly.proofs.Assembles.{assembles-here}
 use Rattle.assembly.proofs.Calls.{shown-yes}
 use Rattle.assembly.proofs.Delivers.{piecesOf, piece-from, piece-in, taken-is, taken-usable, delivers-here}
-use Rattle.demands.specs.Assembling.{Fitting, keyOf, BuiltFrom, by-fragment, by-tail, by-datagram, PastEnd, AllBuilt, Cover, taken, Reassembles}
+use Rattle.demands.specs.Ranges.{Fitting}
+use Rattle.demands.specs.Assembling.{keyOf, BuiltFrom, by-fragment, by-tail, by-datagram, PastEnd, AllBuilt, Cover, taken, Reassembles}
 use Rattle.demands.proofs.Flags.{flags-most, flags-more, flags-offset}
 
 -- ---- the packet of a piece is read back as that piece
@@ -242,13 +237,6 @@ module _ (t : Template) (d : List ℕ) (fits : Fitting t) (few : length d ≤ ca
             shown-yes capacity mapBytes (taken t ls) (taken-usable capacity mapBytes (keyOf t) (omega arith) ls) ∙ built-held ls all h;
         past-end-spoils = past-spoils;
       }
-
--- What a call that builds leaves in its buffer is the packet, with what the buffer held behind it.
-pub call-leaves : (q : Request) (d o o′ : List ℕ) (r : Built) (n : ℕ) → Answered q d o r o′ → r ≡ Packet n → o′ ≡ packetOf q d ++ drop (length (packetOf q d)) o
-unfolding written
-call-leaves q d o o′ r n x is =
-    let e : answerOf q (length d) (length o) ≡ gives n = sym (x .answer) ∙ ap builtSays is in
-    x .after ∙ ap (λ (a : Answer ℕ). leaves a (packetOf q d) o) e
 
 -- `tail` carries all from its offset on and says that nothing follows; `datagram` carries the payload.
 pub tail-last : (d : List ℕ) (off : ℕ) → cut d off (length d) .mf ≡ false

@@ -1,15 +1,14 @@
 -- What the check answers of the packets that are built.
 use mathlib.Core.Path.{_≡_, refl, sym, ap, ap₂, _∙_}
 use mathlib.Core.Bool.{Bool, true, false, not, _||_, cond}
-use Prim.Native.Nat.{ℕ, _+_, _-_, _*_, _/_, _%_, _≤_, _<_}
+use Prim.Native.Nat.{ℕ, _+_, _-_, _≤_, _<_}
 use native.Mathlib.Omega.{arith}
 use mathlib.Core.List.{List, _++_, append-assoc}
 use lib.ListN.{length, take, drop, length-append, length-take, length-drop}
 use lib.Seq.{take-length}
 use lib.Dec.{eqb}
-use borrow.Author.Tests.{eq-eqb, ne-eqb, eqb-true, not-false}
+use borrow.Author.Tests.{eqb-true, not-false}
 use Rattle.pkt.specs.Answers.{Answer, refused, gives}
-use Rattle.pkt.specs.Written.{written}
 use Rattle.pkt.specs.Rfc791.{ipHeader}
 use Rattle.pkt.specs.Rfc768.{udpHeader, udpChecksum}
 use Rattle.pkt.specs.Rfc9293.{tcpHeader, tcpChecksum}
@@ -19,58 +18,25 @@ use Rattle.pkt.specs.declared.ipv4.«udp_hdr».{«udp_hdr»}
 use Rattle.pkt.specs.declared.ipv4.«icmp_hdr».{«icmp_hdr»}
 use Rattle.pkt.specs.declared.ipv4.«icmp_echo_hdr».{«icmp_echo_hdr»}
 use Rattle.pkt.proofs.Bytes.{Bytes}
+use Rattle.pkt.proofs.Choice.{or-no}
 use Rattle.pkt.proofs.Headers.{tcp-length, udp-length, echo-length}
-use Rattle.pkt.specs.Written.{leaves}
-use Rattle.ezpkt.specs.Answers.{builtSays}
-use Rattle.ezpkt.specs.Build.{flowIp, tcpHdr, tcpPacket, udpHdr, udpField, udpPacket, echoType, echoPacket, startOf, endOf, bit, pieceFlags, pieceIp, between, piecePacket, packetOf, answerOf, Answered}
-use Rattle.ezpkt.specs.declared.ip4.Template.{Template}
+use Rattle.ezpkt.specs.Build.{flowIp, tcpHdr, tcpPacket, udpHdr, udpField, udpPacket, echoType, echoPacket, startOf, endOf, pieceIp, between, piecePacket, packetOf, answerOf, Answered}
 use Rattle.ezpkt.specs.declared.build.TcpSegment.{TcpSegment}
 use Rattle.ezpkt.specs.declared.build.UdpDatagram.{UdpDatagram}
 use Rattle.ezpkt.specs.declared.build.IcmpEcho.{IcmpEcho}
 use Rattle.ezpkt.specs.declared.build.IpPiece.{IpPiece}
 use Rattle.ezpkt.specs.declared.build.Request.{Request}
 use Rattle.ezpkt.specs.declared.build.Request.the-variants.{Tcp, Udp, Echo, Piece}
-use Rattle.ezpkt.specs.declared.build.Built.{Built}
 use Rattle.ezpkt.specs.declared.build.Built.the-variants.{Packet}
 use Rattle.ezpkt.proofs.Deciding.{sized-fits, piece-fits}
-use Rattle.inspect.specs.Answers.{Verdict, good, noChecksum}
-use Rattle.inspect.specs.Header.{hasBit}
+use Rattle.inspect.specs.Answers.{Verdict, good}
 use Rattle.inspect.specs.Check.{isPiece, partAnswer, checkAnswer}
 use Rattle.inspect.proofs.Decoding.{Fit, readOf, check-encoded}
 use Rattle.inspect.proofs.Sent.{piece-refused, tcp-good, udp-good, udp-bare, echo-good}
-
--- The numbers of a request that go into the IPv4 header fit their types, as every value of the source does.
-abbrev pub Between : ℕ → ℕ → Type 0
-Between s d = (s < 4294967296) × (d < 4294967296)
-
-pub record Fitting (t : Template) : Type 0 where
-  pub tos : t .tos < 256
-  pub id : t .id < 65536
-  pub ttl : t .ttl < 256
-  pub protocol : t .protocol < 256
-  pub addresses : Between (t .saddr) (t .daddr)
-
-abbrev pub InRange : Request → Type 0
-InRange (Tcp t) = (t .«frag_off» < 65536) × Between (t .saddr) (t .daddr)
-InRange (Udp u) = (u .«frag_off» < 65536) × Between (u .saddr) (u .daddr)
-InRange (Echo e) = Between (e .saddr) (e .daddr)
-InRange (Piece q) = Fitting (q .template)
-
--- MF set or offset not 0, in the whole 16-bit field
-abbrev pub pieceField : ℕ → Bool
-pieceField x = hasBit 0x2000 x || not (eqb (x % 0x2000) 0)
-
--- "MF is set exactly if that end is not n"
-abbrev pub more : IpPiece → ℕ → Bool
-more q n = not (eqb (endOf q n) n)
-
--- What the check owes a request and its payload: 13 for what has an offset or MF; else good, and good without checksum for UDP with none
--- asked for; and for a piece that is a whole datagram what its payload p is answered under its header.
-abbrev pub checkOf : Request → List ℕ → Answer Verdict
-checkOf (Tcp t) p = cond (pieceField (t .«frag_off»)) (refused 13) (gives good)
-checkOf (Udp u) p = cond (pieceField (u .«frag_off»)) (refused 13) (gives (cond (u .csum) good noChecksum))
-checkOf (Echo e) p = gives good
-checkOf (Piece q) p = cond (more q (length p) || not (eqb (q .off) 0)) (refused 13) (partAnswer (readOf (pieceIp q (20 + length p) false)) p)
+use Rattle.demands.specs.Ranges.{Fitting, Between, InRange}
+use Rattle.demands.specs.Checked.{more, udpVerdict, checkOf}
+use Rattle.demands.proofs.Left.{left-by}
+use Rattle.demands.proofs.Flags.{flags-most, flags-more, flags-offset}
 
 -- an encoded header with its data part, which is answered v where it is no piece
 judged : (h : «ip_hdr») (d r : List ℕ) (v : Answer Verdict) → Fit h → h .«tot_len» ≡ 20 + length d
@@ -114,12 +80,12 @@ udp-checked u p r range bp few =
     let d : List ℕ = udpHeader x c ++ p in
     let size : length d ≡ 8 + length p = length-append (udpHeader x c) p ∙ ap (λ (n : ℕ). n + length p) (udp-length x c) in
     let fit = flow-fit 17 (28 + length p) (u .«frag_off») (u .saddr) (u .daddr) (omega arith) (omega arith) (range .0) (range .1) in
-    judged h d r (gives (cond (u .csum) good noChecksum)) fit (omega arith) (λ whole. asked (u .csum) whole)
+    judged h d r (gives (udpVerdict (u .csum))) fit (omega arith) (λ whole. asked (u .csum) whole)
   where
     asked : (b : Bool) → isPiece (readOf (flowIp 17 (28 + length p) (u .«frag_off») (u .saddr) (u .daddr))) ≡ false
         → partAnswer (readOf (flowIp 17 (28 + length p) (u .«frag_off») (u .saddr) (u .daddr)))
         (udpHeader (udpHdr u (length p)) (cond b (udpChecksum (u .saddr) (u .daddr) (udpHdr u (length p)) p) 0) ++ p)
-        ≡ gives (cond b good noChecksum)
+        ≡ gives (udpVerdict b)
     asked true whole = udp-good _ p bp whole (udpHdr u (length p)) refl refl (omega arith)
     asked false whole = udp-bare _ p bp whole (udpHdr u (length p)) refl refl (omega arith)
 
@@ -137,45 +103,9 @@ echo-checked e p r range bp few =
 
 -- ---- pieces
 
--- The bits and the offset of a piece's field are read back.
-ones : Bool → ℕ
-ones b = bit b 1
-
-ones-most : (b : Bool) → ones b ≤ 1
-unfolding ones
-ones-most true = omega arith
-ones-most false = omega arith
-
-bit-is : (b : Bool) (n : ℕ) → bit b n ≡ n * ones b
-unfolding ones
-bit-is true n = omega arith
-bit-is false n = omega arith
-
-test-is : (b : Bool) (x : ℕ) → x ≡ ones b → eqb x 1 ≡ b
-unfolding ones
-test-is true x e = eq-eqb x 1 e
-test-is false x e = ne-eqb x 1 (λ z. omega arith)
-
-flags-is : (q : IpPiece) (m : Bool) → pieceFlags q m ≡ 32768 * ones (q .template .evil) + 16384 * ones (q .template .df) + 8192 * ones m + q .off
-flags-is q m = simp (bit-is (q .template .evil) 32768, bit-is (q .template .df) 16384, bit-is m 8192)
-
-flags-most : (q : IpPiece) (m : Bool) → q .off ≤ 8191 → pieceFlags q m < 65536
-flags-most q m h = omega (arith, flags-is q m, ones-most (q .template .evil), ones-most (q .template .df), ones-most m)
-
-flags-more : (q : IpPiece) (m : Bool) → q .off ≤ 8191 → hasBit 0x2000 (pieceFlags q m) ≡ m
-flags-more q m h =
-    test-is m (pieceFlags q m / 0x2000 % 2) (omega (arith, flags-is q m, ones-most (q .template .evil), ones-most (q .template .df), ones-most m))
-
-flags-offset : (q : IpPiece) (m : Bool) → q .off ≤ 8191 → pieceFlags q m % 0x2000 ≡ q .off
-flags-offset q m h = omega (arith, flags-is q m, ones-most (q .template .evil), ones-most (q .template .df), ones-most m)
-
-piece-read : (q : IpPiece) (size : ℕ) (m : Bool) → q .off ≤ 8191 → isPiece (readOf (pieceIp q size m)) ≡ m || not (eqb (q .off) 0)
+pub piece-read : (q : IpPiece) (size : ℕ) (m : Bool) → q .off ≤ 8191 → isPiece (readOf (pieceIp q size m)) ≡ m || not (eqb (q .off) 0)
 unfolding readOf
 piece-read q size m h = ap₂ (λ (a : Bool) (b : ℕ). a || not (eqb b 0)) (flags-more q m h) (flags-offset q m h)
-
-or-false : (a b : Bool) → a || b ≡ false → (a ≡ false) × (b ≡ false)
-or-false true b e = absurd (let z : _≡_ {A = ℕ} 0 1 = cc in omega arith)
-or-false false b e = (refl, e)
 
 module _ (q : IpPiece) (p : List ℕ) where
   -- a piece from start up to end, judged
@@ -187,7 +117,7 @@ module _ (q : IpPiece) (p : List ℕ) where
       → pieced (startOf q (length p)) (endOf q (length p)) (more q (length p)) ≡ partAnswer (readOf (pieceIp q (20 + length p) false)) p
   unfolding pieced
   whole-piece e =
-      let w = or-false (more q (length p)) (not (eqb (q .off) 0)) e in
+      let w = or-no (more q (length p)) (not (eqb (q .off) 0)) e in
       let at-end : endOf q (length p) ≡ length p = eqb-true (endOf q (length p)) (length p) (not-false _ (w .0)) in
       let zero-off : q .off ≡ 0 = eqb-true (q .off) 0 (not-false _ (w .1)) in
       let at-start : startOf q (length p) ≡ 0 = omega arith in
@@ -198,7 +128,7 @@ module _ (q : IpPiece) (p : List ℕ) where
       ∙ ap (λ (k : ℕ). partAnswer (readOf (pieceIp q (20 + k) false)) (take k p)) n
       ∙ ap (partAnswer (readOf (pieceIp q (20 + length p) false))) (take-length p)
 
-  piece-checked : (r : List ℕ) → Fitting (q .template) → q .off ≤ 8191 → length p ≤ 65515 → checkAnswer (piecePacket q p ++ r) ≡ checkOf (Piece q) p
+  pub piece-checked : (r : List ℕ) → Fitting (q .template) → q .off ≤ 8191 → length p ≤ 65515 → checkAnswer (piecePacket q p ++ r) ≡ checkOf (Piece q) p
   unfolding piecePacket pieced
   piece-checked r fits off few =
       let start : ℕ = startOf q (length p) in
@@ -217,8 +147,8 @@ module _ (q : IpPiece) (p : List ℕ) where
         frag = flags-most q m off;
         ttl = fits .ttl;
         protocol = fits .protocol;
-        saddr = fits .addresses .0;
-        daddr = fits .addresses .1;
+        saddr = fits .saddr;
+        daddr = fits .daddr;
       } in
       judged h d r v fit (omega arith) (λ whole. whole-piece (sym field ∙ whole)) ∙ ap (λ (t : Bool). cond t (refused 13) v) field
 
@@ -235,10 +165,6 @@ packet-checked (Piece q) p r room n range bp e =
     piece-checked q p r range (f .0) (f .1 .few)
 
 -- So is the buffer that a call of `build` leaves, with what it held behind the packet.
-pub built-checked : (q : Request) (p o : List ℕ) (r : Built) (o′ : List ℕ) (n : ℕ) → InRange q → Bytes p → Answered q p o r o′ → r ≡ Packet n
-    → checkAnswer o′ ≡ checkOf q p
-unfolding written
-built-checked q p o r o′ n range bp done is =
-    let e : answerOf q (length p) (length o) ≡ gives n = sym (done .answer) ∙ ap builtSays is in
-    let left : o′ ≡ written (packetOf q p) o = done .after ∙ ap (λ (a : Answer ℕ). leaves a (packetOf q p) o) e in
-    ap checkAnswer left ∙ packet-checked q p (drop (length (packetOf q p)) o) (length o) n range bp e
+pub built-checked : (q : Request) (p o b : List ℕ) (n : ℕ) → InRange q → Bytes p → Answered q p o (Packet n) b → checkAnswer b ≡ checkOf q p
+built-checked q p o b n range bp x =
+    ap checkAnswer (left-by q p o b n x) ∙ packet-checked q p (drop (length (packetOf q p)) o) (length o) n range bp (sym (x .answer))

@@ -1,5 +1,7 @@
+pub mod Left
+pub mod Flags
 pub mod Assembling
 pub mod Checked
-pub mod Flags
 pub mod Refusals
+pub mod Round
 pub mod Worked

@@ -17,15 +17,6 @@ use Rattle.assembly.specs.Carried.{pieceAnswer}
 use Rattle.assembly.specs.Calls.{capacity, mapBytes, takeAnswer, shown}
 use Rattle.assembly.specs.Packets.{takeAll, Accepted}
 
--- The template's numbers fit their types, as every value of the source does.
-pub record Fitting (t : Template) : Type 0 where
-  pub tos : t .tos < 256
-  pub id : t .id < 65536
-  pub ttl : t .ttl < 256
-  pub protocol : t .protocol < 256
-  pub saddr : t .saddr < 4294967296
-  pub daddr : t .daddr < 4294967296
-
 -- "one header with the assembly's key"
 abbrev pub keyOf : Template → Key
 keyOf t = record { saddr = t .saddr; daddr = t .daddr; id = t .id }

@@ -1,0 +1,138 @@
+-- Build, cut, assemble, check: the pieces assemble to the payload, and behind a header that names its protocol and addresses it is good.
+use mathlib.Core.Path.{_≡_, refl, sym, ap, subst, _∙_}
+use mathlib.Core.Bool.{Bool, true, false, not, _||_, cond}
+use mathlib.Core.List.{List, _++_}
+use Prim.Native.Nat.{ℕ, _+_, _*_, _≤_, min}
+use native.Mathlib.Omega.{arith}
+use lib.ListN.{length, drop, length-drop}
+use lib.Seq.{drop-at}
+use lib.Dec.{eqb}
+use borrow.Author.Tests.{eq-eqb}
+use Rattle.pkt.specs.Answers.{gives}
+use Rattle.pkt.specs.Rfc791.{ipHeader}
+use Rattle.pkt.specs.Rfc768.{udpHeader, udpChecksum}
+use Rattle.pkt.specs.Rfc792.{icmpNew, echoNew}
+use Rattle.pkt.specs.declared.ipv4.«ip_hdr».{«ip_hdr»}
+use Rattle.pkt.proofs.Bytes.{Bytes}
+use Rattle.pkt.proofs.Choice.{pick-no}
+use Rattle.pkt.proofs.Headers.{ip-length}
+use Rattle.ezpkt.specs.Build.{flowIp, tcpHdr, tcpPacket, udpHdr, udpPacket, echoType, echoPacket, pieceIp, packetOf, answerOf, Answered}
+use Rattle.ezpkt.specs.Ip4.{datagramOf}
+use Rattle.ezpkt.specs.declared.ip4.Template.{Template}
+use Rattle.ezpkt.specs.declared.build.TcpSegment.{TcpSegment}
+use Rattle.ezpkt.specs.declared.build.UdpDatagram.{UdpDatagram}
+use Rattle.ezpkt.specs.declared.build.IcmpEcho.{IcmpEcho}
+use Rattle.ezpkt.specs.declared.build.IpPiece.{IpPiece}
+use Rattle.ezpkt.specs.declared.build.Request.{Request}
+use Rattle.ezpkt.specs.declared.build.Request.the-variants.{Tcp, Udp, Echo, Piece}
+use Rattle.ezpkt.specs.declared.build.Built.the-variants.{Packet}
+use Rattle.ezpkt.proofs.Deciding.{sized-fits, piece-fits}
+use Rattle.ezpkt.proofs.Verifying.{built-packet}
+use Rattle.inspect.specs.Answers.{good}
+use Rattle.inspect.specs.Check.{isPiece, partAnswer, checkAnswer}
+use Rattle.inspect.specs.declared.header.IpRead.{IpRead}
+use Rattle.inspect.proofs.Decoding.{readOf}
+use Rattle.inspect.proofs.Sent.{tcp-good, udp-good, udp-bare, echo-good}
+use Rattle.assembly.specs.Assembly.{complete}
+use Rattle.assembly.specs.Calls.{capacity, mapBytes, shown}
+use Rattle.demands.specs.Ranges.{Fitting}
+use Rattle.demands.specs.Checked.{udpVerdict}
+use Rattle.demands.specs.Assembling.{BuiltFrom, by-fragment, by-tail, by-datagram, taken}
+use Rattle.demands.specs.Round.{payloadIn, CutBy, of-fragment, of-tail, of-datagram, AllCut, Names, Carries, verdictOf, RoundTrip}
+use Rattle.demands.proofs.Left.{left-by}
+use Rattle.demands.proofs.Assembling.{reassembles}
+use Rattle.demands.proofs.Checked.{piece-read, piece-checked}
+
+-- what stands behind an IPv4 header
+behind : (h : «ip_hdr») (l : List ℕ) → drop 20 (ipHeader h ++ l) ≡ l
+behind h l = drop-at (ipHeader h) l 20 (ip-length h)
+
+-- What the calls that cut leave is what they are asked for.
+cut-built : (t : Template) (d l : List ℕ) → CutBy t d l → BuiltFrom t d l
+cut-built t d l (of-fragment off len n o h x) = by-fragment off len _ h (left-by _ d o l n x)
+cut-built t d l (of-tail off n o h x) = by-tail off _ h (left-by _ d o l n x)
+cut-built t d l (of-datagram n o x) = by-datagram _ (left-by _ d o l n x)
+
+-- `datagram`'s request for n bytes
+abbrev asked : Template → ℕ → IpPiece
+asked t n = record { template = t; off = 0; len = n }
+
+-- behind the header of a whole datagram under t, as it is read
+module _ (t : Template) (len size : ℕ) where
+  whole : IpRead
+  whole = readOf (pieceIp (asked t len) size false)
+
+  no-piece : isPiece whole ≡ false
+  unfolding whole
+  no-piece = piece-read (asked t len) size false (omega arith)
+
+  tcp-part : (x : TcpSegment) (p : List ℕ) → Names t 6 (x .saddr) (x .daddr) → Bytes p → partAnswer whole (drop 20 (tcpPacket x p)) ≡ gives good
+  unfolding whole tcpPacket readOf
+  tcp-part x p (six, s, d) bp =
+      ap (partAnswer whole) (behind (flowIp 6 (40 + length p) (x .«frag_off») (x .saddr) (x .daddr)) _)
+      ∙ rw (← s, ← d) (tcp-good whole p bp no-piece (tcpHdr x) six)
+
+  udp-part : (x : UdpDatagram) (p : List ℕ) → Names t 17 (x .saddr) (x .daddr) → Bytes p → length p ≤ 65507
+      → partAnswer whole (drop 20 (udpPacket x p)) ≡ gives (udpVerdict (x .csum))
+  unfolding whole udpPacket readOf
+  udp-part x p (seventeen, s, d) bp few =
+      ap (partAnswer whole) (behind (flowIp 17 (28 + length p) (x .«frag_off») (x .saddr) (x .daddr)) _)
+      ∙ rw (← s, ← d) (summed (x .csum))
+    where
+      summed : (b : Bool) → partAnswer whole (udpHeader (udpHdr x (length p)) (cond b (udpChecksum (t .saddr) (t .daddr) (udpHdr x (length p)) p) 0) ++ p)
+          ≡ gives (udpVerdict b)
+      summed true = udp-good whole p bp no-piece (udpHdr x (length p)) seventeen refl (omega arith)
+      summed false = udp-bare whole p bp no-piece (udpHdr x (length p)) seventeen refl (omega arith)
+
+  echo-part : (x : IcmpEcho) (p : List ℕ) → Names t 1 (x .saddr) (x .daddr) → Bytes p → partAnswer whole (drop 20 (echoPacket x p)) ≡ gives good
+  unfolding whole echoPacket readOf
+  echo-part x p names bp =
+      ap (partAnswer whole) (behind (flowIp 1 (28 + length p) 0 (x .saddr) (x .daddr)) _)
+      ∙ echo-good whole p bp no-piece (icmpNew (echoType (x .reply))) (echoNew (x .seq)) (names .0)
+
+  -- The payload of a packet that is built gets the verdict that it deserves.
+  part-good : (q : Request) (p : List ℕ) (room n : ℕ) → Carries t q → Bytes p → answerOf q (length p) room ≡ gives n
+      → partAnswer whole (drop 20 (packetOf q p)) ≡ gives (verdictOf q)
+  part-good (Tcp x) p room n c bp e = tcp-part x p c bp
+  part-good (Udp x) p room n c bp e = udp-part x p c bp (sized-fits 65507 28 (length p) room n e .few)
+  part-good (Echo x) p room n c bp e = echo-part x p c bp
+  part-good (Piece x) p room n c bp e = absurd c
+
+-- No packet that is built is above 65,535 bytes.
+size-most : (q : Request) (n room k : ℕ) → answerOf q n room ≡ gives k → k ≤ 65535
+size-most (Tcp x) n room k e = let f = sized-fits 65495 40 n room k e in omega (arith, f .few, f .is-size)
+size-most (Udp x) n room k e = let f = sized-fits 65507 28 n room k e in omega (arith, f .few, f .is-size)
+size-most (Echo x) n room k e = let f = sized-fits 65507 28 n room k e in omega (arith, f .few, f .is-size)
+size-most (Piece x) n room k e = let f = piece-fits x n room k e .1 in omega (arith, f .few, f .is-size)
+
+-- What `datagram` builds of d is checked as d behind that header.
+datagram-checked : (t : Template) (d o b : List ℕ) (n : ℕ) → Fitting t → length d ≤ 65515 → Answered (datagramOf t (length d)) d o (Packet n) b
+    → checkAnswer b ≡ partAnswer (whole t (length d) (20 + length d)) d
+unfolding whole
+datagram-checked t d o b n fits few x =
+    let q : IpPiece = asked t (length d) in
+    let all : min (8 * 0 + 8 * length d) (length d) ≡ length d = omega arith in
+    ap checkAnswer (left-by _ d o b n x)
+    ∙ piece-checked q d _ fits (omega arith) few
+    ∙ pick-no _ _ (ap (λ (e : Bool). not e || not (eqb 0 0)) (eq-eqb _ _ all))
+
+pub round-trip : (t : Template) (q : Request) (p o b : List ℕ) (n : ℕ) → Fitting t → Carries t q → Bytes p → Answered q p o (Packet n) b
+    → RoundTrip t (verdictOf q) (payloadIn n b)
+round-trip t q p o b n fits c bp x =
+    let d : List ℕ = payloadIn n b in
+    let front = built-packet q p o b (Packet n) n x refl in
+    let is : d ≡ drop 20 (packetOf q p) = ap (drop 20) (front .1) in
+    let size = size-most q (length p) (length o) n (sym (x .answer)) in
+    let few : length d ≤ capacity = omega (arith, ap length is, length-drop 20 (packetOf q p), front .0) in
+    let held : (ls : List (List ℕ)) → AllCut t d ls → complete (taken t ls) ≡ true → shown capacity mapBytes (taken t ls) ≡ d =
+    λ ls all h. reassembles t d fits few .held ls (λ l m. cut-built t d l (all l m)) h in
+    record {
+      assembles = reassembles t d fits few;
+      pieces = cut-built t d;
+      assembled = held;
+      checked =
+          λ ls all h o₂ b₂ n₂ y.
+          datagram-checked t d o₂ b₂ n₂ fits few (subst (λ (s : List ℕ). Answered (datagramOf t (length s)) s o₂ (Packet n₂) b₂) (held ls all h) y)
+          ∙ ap (partAnswer (whole t (length d) (20 + length d))) is
+          ∙ part-good t (length d) (20 + length d) q p (length o) n c bp (sym (x .answer));
+    }

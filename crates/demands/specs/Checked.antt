@@ -1,0 +1,35 @@
+-- What the check owes a packet that is built.
+use mathlib.Core.Bool.{Bool, false, not, _||_, cond}
+use mathlib.Core.List.{List}
+use Prim.Native.Nat.{ℕ, _+_, _%_}
+use lib.ListN.{length}
+use lib.Dec.{eqb}
+use Rattle.pkt.specs.Answers.{Answer, refused, gives}
+use Rattle.ezpkt.specs.Build.{endOf, pieceIp}
+use Rattle.ezpkt.specs.declared.build.IpPiece.{IpPiece}
+use Rattle.ezpkt.specs.declared.build.Request.{Request}
+use Rattle.ezpkt.specs.declared.build.Request.the-variants.{Tcp, Udp, Echo, Piece}
+use Rattle.inspect.specs.Answers.{Verdict, good, noChecksum}
+use Rattle.inspect.specs.Header.{hasBit}
+use Rattle.inspect.specs.Check.{partAnswer}
+use Rattle.inspect.proofs.Decoding.{readOf}
+
+-- MF set or offset not 0, in the whole 16-bit field
+abbrev pub pieceField : ℕ → Bool
+pieceField x = hasBit 0x2000 x || not (eqb (x % 0x2000) 0)
+
+-- "MF is set exactly if that end is not n"
+abbrev pub more : IpPiece → ℕ → Bool
+more q n = not (eqb (endOf q n) n)
+
+-- what a UDP datagram deserves: "good without checksum (UDP field 0)"
+abbrev pub udpVerdict : Bool → Verdict
+udpVerdict csum = cond csum good noChecksum
+
+-- What the check owes a request and its payload: 13 for what has an offset or MF; else good, and good without checksum for UDP with none
+-- asked for; and for a piece that is a whole datagram what its payload p is answered under its header.
+abbrev pub checkOf : Request → List ℕ → Answer Verdict
+checkOf (Tcp t) p = cond (pieceField (t .«frag_off»)) (refused 13) (gives good)
+checkOf (Udp u) p = cond (pieceField (u .«frag_off»)) (refused 13) (gives (udpVerdict (u .csum)))
+checkOf (Echo e) p = gives good
+checkOf (Piece q) p = cond (more q (length p) || not (eqb (q .off) 0)) (refused 13) (partAnswer (readOf (pieceIp q (20 + length p) false)) p)
