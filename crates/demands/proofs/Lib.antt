@@ -1,5 +1,6 @@
 pub mod Left
 pub mod Flags
+pub mod Handing
 pub mod Assembling
 pub mod Checked
 pub mod Refusals

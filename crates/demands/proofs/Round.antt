@@ -1,7 +1,7 @@
 -- Build, cut, assemble, check: the pieces assemble to the payload, and behind a header that names its protocol and addresses it is good.
 use mathlib.Core.Path.{_≡_, refl, sym, ap, subst, _∙_}
 use mathlib.Core.Bool.{Bool, true, false, not, _||_, cond}
-use mathlib.Core.List.{List, _++_}
+use mathlib.Core.List.{List, [], _∷_, _++_}
 use Prim.Native.Nat.{ℕ, _+_, _*_, _≤_, min}
 use native.Mathlib.Omega.{arith}
 use lib.ListN.{length, drop, length-drop}
@@ -33,13 +33,16 @@ use Rattle.inspect.specs.Check.{isPiece, partAnswer, checkAnswer}
 use Rattle.inspect.specs.declared.header.IpRead.{IpRead}
 use Rattle.inspect.proofs.Decoding.{readOf}
 use Rattle.inspect.proofs.Sent.{tcp-good, udp-good, udp-bare, echo-good}
+use Rattle.assembly.specs.declared.Rec.{Rec}
+use Rattle.assembly.specs.declared.Taken.the-variants.{Complete}
 use Rattle.assembly.specs.Assembly.{complete}
 use Rattle.assembly.specs.Calls.{capacity, mapBytes, shown}
 use Rattle.demands.specs.Ranges.{Fitting}
 use Rattle.demands.specs.Checked.{udpVerdict}
-use Rattle.demands.specs.Assembling.{BuiltFrom, by-fragment, by-tail, by-datagram, taken}
-use Rattle.demands.specs.Round.{payloadIn, CutBy, of-fragment, of-tail, of-datagram, AllCut, Names, Carries, verdictOf, RoundTrip}
+use Rattle.demands.specs.Assembling.{keyOf, BuiltFrom, by-fragment, by-tail, by-datagram}
+use Rattle.demands.specs.Round.{payloadIn, CutBy, of-fragment, of-tail, of-datagram, Names, Carries, verdictOf, by-take, Finished, heldOf, RoundTrip}
 use Rattle.demands.proofs.Left.{left-by}
+use Rattle.demands.proofs.Handing.{handed-is, complete-told}
 use Rattle.demands.proofs.Assembling.{reassembles}
 use Rattle.demands.proofs.Checked.{piece-read, piece-checked}
 
@@ -124,15 +127,21 @@ round-trip t q p o b n fits c bp x =
     let is : d ≡ drop 20 (packetOf q p) = ap (drop 20) (front .1) in
     let size = size-most q (length p) (length o) n (sym (x .answer)) in
     let few : length d ≤ capacity = omega (arith, ap length is, length-drop 20 (packetOf q p), front .0) in
-    let held : (ls : List (List ℕ)) → AllCut t d ls → complete (taken t ls) ≡ true → shown capacity mapBytes (taken t ls) ≡ d =
-    λ ls all h. reassembles t d fits few .held ls (λ l m. cut-built t d l (all l m)) h in
+    let held : (r : Rec) (payload map : List ℕ) → Finished t d r payload map → heldOf r payload map ≡ d =
+    λ r payload map f.
+    let e = handed-is (keyOf t) _ r payload map (by-take (f .before) (f .last) (f .payload₀) (f .map₀) payload map (f .rec) (Complete r) (f .handed) (f .answered)) in
+    ap (shown capacity mapBytes) e
+    ∙ reassembles t d fits few .held (f .before ++ (f .last ∷ [])) (λ l m. cut-built t d l (f .cut l m))
+    (sym (ap complete e) ∙ complete-told capacity mapBytes _ (f .last) r payload map (f .answered))
+    in
     record {
       assembles = reassembles t d fits few;
       pieces = cut-built t d;
+      handing = handed-is (keyOf t);
       assembled = held;
       checked =
-          λ ls all h o₂ b₂ n₂ y.
-          datagram-checked t d o₂ b₂ n₂ fits few (subst (λ (s : List ℕ). Answered (datagramOf t (length s)) s o₂ (Packet n₂) b₂) (held ls all h) y)
+          λ r payload map f o₂ b₂ n₂ y.
+          datagram-checked t d o₂ b₂ n₂ fits few (subst (λ (s : List ℕ). Answered (datagramOf t (length s)) s o₂ (Packet n₂) b₂) (held r payload map f) y)
           ∙ ap (partAnswer (whole t (length d) (20 + length d))) is
           ∙ part-good t (length d) (20 + length d) q p (length o) n c bp (sym (x .answer));
     }

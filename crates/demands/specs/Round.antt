@@ -1,7 +1,6 @@
 -- Build, cut, assemble, check: a packet that is built, whose IPv4 payload is cut, is put together again and checked.
 use mathlib.Core.Path.{_≡_}
-use mathlib.Core.Bool.{true}
-use mathlib.Core.List.{List, List·Memᴰ}
+use mathlib.Core.List.{List, [], _∷_, _++_, List·Memᴰ}
 use Prim.Native.Nat.{ℕ, _*_, _≤_}
 use lib.ListN.{length, take, drop}
 use Rattle.pkt.specs.Answers.{gives}
@@ -13,9 +12,15 @@ use Rattle.ezpkt.specs.declared.build.Request.the-variants.{Tcp, Udp, Echo, Pie
 use Rattle.ezpkt.specs.declared.build.Built.the-variants.{Packet}
 use Rattle.inspect.specs.Answers.{Verdict, good}
 use Rattle.inspect.specs.Check.{checkAnswer}
-use Rattle.assembly.specs.Assembly.{complete}
-use Rattle.assembly.specs.Calls.{capacity, mapBytes, shown}
-use Rattle.demands.specs.Assembling.{BuiltFrom, taken, Reassembles}
+use Rattle.assembly.specs.declared.Key.{Key}
+use Rattle.assembly.specs.declared.Rec.{Rec}
+use Rattle.assembly.specs.declared.Opened.the-variants.{Open}
+use Rattle.assembly.specs.declared.Taken.{Taken}
+use Rattle.assembly.specs.declared.Taken.the-variants.{Complete}
+use Rattle.assembly.specs.View.{view}
+use Rattle.assembly.specs.Answers.{takenSays, recAfter}
+use Rattle.assembly.specs.Calls.{capacity, mapBytes, Opens, Takes, shown}
+use Rattle.demands.specs.Assembling.{keyOf, BuiltFrom, taken, Reassembles}
 use Rattle.demands.specs.Checked.{udpVerdict}
 
 -- the IPv4 payload of a packet of n bytes that a call left at the start of the output b
@@ -48,16 +53,39 @@ verdictOf (Udp x) = udpVerdict (x .csum)
 verdictOf (Echo x) = good
 verdictOf (Piece x) = good
 
+-- An assembly's record and buffers after it was opened for k and the packets ls were handed in, one call of `take` after the other. A call
+-- that is refused hands no record back, and the caller goes on with its own.
+pub data Handed (k : Key) : List (List ℕ) → Rec → List ℕ → List ℕ → Type 0 where
+  by-open : (d m d′ m′ : List ℕ) (r : Rec) → Opens capacity mapBytes k d m (Open r) d′ m′ → Handed k [] r d′ m′
+  by-take : (ls : List (List ℕ)) (l d m d′ m′ : List ℕ) (r : Rec) (a : Taken) → Handed k ls r d m → Takes capacity mapBytes (view r d m) l a d′ m′
+      → Handed k (ls ++ (l ∷ [])) (recAfter (takenSays a) r) d′ m′
+
+-- Pieces of d under t, as the calls left them, were handed in, and the last call of `take` answered complete: the record r and the buffers
+-- after it.
+pub record Finished (t : Template) (d : List ℕ) (r : Rec) (payload map : List ℕ) : Type 0 where
+  pub before : List (List ℕ)
+  pub last : List ℕ
+  pub cut : AllCut t d (before ++ (last ∷ []))
+  pub rec : Rec
+  pub payload₀ : List ℕ
+  pub map₀ : List ℕ
+  pub handed : Handed (keyOf t) before rec payload₀ map₀
+  pub answered : Takes capacity mapBytes (view rec payload₀ map₀) last (Complete r) payload map
+
+-- what `held` answers
+abbrev pub heldOf : Rec → List ℕ → List ℕ → List ℕ
+heldOf r payload map = shown capacity mapBytes (view r payload map)
+
 -- The IPv4 payload d, cut under t.
 pub record RoundTrip (t : Template) (v : Verdict) (d : List ℕ) : Type 0 where
   -- Demand 3 holds of d under t,
   pub assembles : Reassembles t d
-  -- and what the calls leave are its pieces.
+  -- what the calls that cut leave are its pieces,
   pub pieces : (l : List ℕ) → CutBy t d l → BuiltFrom t d l
-  -- So packets that are left by calls and make the assembly complete lead to `held` answering d,
-  pub assembled : (ls : List (List ℕ)) → AllCut t d ls → complete (taken t ls) ≡ true → shown capacity mapBytes (taken t ls) ≡ d
+  -- and the calls of an assembly lead where demand 3 says.
+  pub handing : (ls : List (List ℕ)) (r : Rec) (payload map : List ℕ) → Handed (keyOf t) ls r payload map → view r payload map ≡ taken t ls
+  -- So when the pieces are put together, `held` answers d,
+  pub assembled : (r : Rec) (payload map : List ℕ) → Finished t d r payload map → heldOf r payload map ≡ d
   -- and what `datagram` builds of that is checked as it deserves.
-  pub checked : (ls : List (List ℕ)) → AllCut t d ls → complete (taken t ls) ≡ true
-      → (o b : List ℕ) (n : ℕ)
-      → Answered (datagramOf t (length (shown capacity mapBytes (taken t ls)))) (shown capacity mapBytes (taken t ls)) o (Packet n) b
-      → checkAnswer b ≡ gives v
+  pub checked : (r : Rec) (payload map : List ℕ) → Finished t d r payload map → (o b : List ℕ) (n : ℕ)
+      → Answered (datagramOf t (length (heldOf r payload map))) (heldOf r payload map) o (Packet n) b → checkAnswer b ≡ gives v
