@@ -6,7 +6,7 @@ use mathlib.Core.List.{List, [], _∷_, _++_, append-assoc, append-nil, List·Me
 use Prim.Native.Nat.{ℕ, zero, suc, _+_, _-_, _*_, _≤_, _<_, min}
 use native.Mathlib.Omega.{arith}
 use lib.ListN.{length, take, drop, length-append, length-take, length-drop}
-use lib.Seq.{slice, take-at, drop-at, take-length}
+use lib.Seq.{slice, take-nil, take-at, drop-at, take-length}
 use lib.Dec.{eqb}
 use borrow.Author.Tests.{eq-eqb}
 use Rattle.pkt.specs.Answers.{Answer, gives}
@@ -39,15 +39,11 @@ use Rattle.demands.proofs.Flags.{flags-most, flags-more, flags-offset}
 
 -- ---- the packet of a piece is read back as that piece
 
-take-none : (n : ℕ) → _≡_ {A = List ℕ} (take n []) []
-take-none zero = refl
-take-none (suc n) = refl
-
 -- the bytes from s up to e, in two ways
 between-slice : (s e : ℕ) (d : List ℕ) → take (e - s) (drop s d) ≡ slice s e d
 between-slice zero e d = let z : e - 0 ≡ e = omega arith in rw z refl
 between-slice (suc s) zero d = let z : 0 - suc s ≡ 0 = omega arith in rw z refl
-between-slice (suc s) (suc e) [] = take-none (suc e - suc s)
+between-slice (suc s) (suc e) [] = take-nil (suc e - suc s)
 between-slice (suc s) (suc e) (x ∷ d) = let z : suc e - suc s ≡ e - s = omega arith in rw z (between-slice s e d)
 
 module _ (t : Template) (d : List ℕ) (fits : Fitting t) (few : length d ≤ capacity) where

@@ -11,8 +11,8 @@ use Rattle.assembly.specs.Map.{bit, setBit, mark, marked}
 use Rattle.assembly.specs.Assembly.{step, clashes, endClash, byteClash, accept, newTotal, newFloor, heldTo, totalFits, recordFits, outcome}
 use Rattle.assembly.specs.Carried.{sameKey, broken, fitAnswer, judgeAnswer, headAnswer, pieceAnswer}
 use Rattle.assembly.specs.Calls.{sized, usable, takeAnswer}
-use Rattle.demands.specs.Worked.{AllHold, none, and, syn, datagram, handshake, numbersAt, rolled, pieceAt, fieldAndData, cases}
+use Rattle.demands.specs.Worked.{AllHold, syn, datagram, handshake, numbersAt, rolled, pieceAt, fieldAndData, cases}
 
 pub worked : AllHold cases
 unfolding syn datagram handshake numbersAt rolled pieceAt fieldAndData fieldAt value tcpPacket udpPacket piecePacket ipHeader ipBytes tcpHeader tcpChecksum udpHeader udpChecksum nonzero pseudo checksum words sum plus takeAnswer usable sized recordFits totalFits pieceAnswer headAnswer judgeAnswer fitAnswer broken sameKey readAnswer frameAnswer headerOf step clashes endClash byteClash accept newTotal newFloor outcome heldTo marked mark setBit bit
-worked = and refl (and refl (and refl (and refl (and refl (and refl (and refl (and refl (and refl (and refl (and refl (and refl (and refl (and refl (and refl (and refl none)))))))))))))))
+worked = (refl, (refl, (refl, (refl, (refl, (refl, (refl, (refl, (refl, (refl, (refl, (refl, (refl, (refl, (refl, (refl, tt))))))))))))))))

@@ -28,9 +28,10 @@ pub record Case : Type 1 where
 abbrev case : {A : Type 0} → A → A → Case
 case {A} x y = record { Of = A; computed = x; expected = y }
 
-pub data AllHold : List Case → Type 1 where
-  none : AllHold []
-  and : {c : Case} {cs : List Case} → c .computed ≡ c .expected → AllHold cs → AllHold (c ∷ cs)
+-- each has the value that it is to have
+abbrev pub AllHold : List Case → Type 0
+AllHold [] = Unit {0}
+AllHold (c ∷ cs) = (c .computed ≡ c .expected) × AllHold cs
 
 -- ---- what the examples are about
 
