@@ -5,7 +5,7 @@ use Prim.Native.Nat.{ℕ}
 use Rattle.assembly.specs.declared.Key.{Key}
 use Rattle.assembly.specs.Map.{bit, setBit, mark, marked}
 use Rattle.assembly.specs.Piece.{Piece}
-use Rattle.assembly.specs.Assembly.{opened, run, step, clashes, endClash, byteClash, accept, newTotal, newFloor, heldTo, outcome, Outcome, isWaiting, isComplete, isSpoilt}
+use Rattle.assembly.specs.Assembly.{opened, run, step, clashes, endClash, byteClash, accept, newTotal, newFloor, heldTo, outcome, Outcome, isWaiting, isSpoilt}
 use Rattle.assembly.specs.Calls.{capacity, mapBytes}
 use Rattle.assembly.specs.Cut.{cut}
 
@@ -14,11 +14,6 @@ twenty = 1 ∷ 2 ∷ 3 ∷ 4 ∷ 5 ∷ 6 ∷ 7 ∷ 8 ∷ 9 ∷ 10 ∷ 11 ∷ 12 
 
 abbrev pub after : Key → List Piece → Outcome
 after k ps = outcome (run (opened k capacity mapBytes) ps)
-
--- "n = 0, (0,0): .. complete at once"
-pub empty-at-once : (k : Key) → after k (cut [] 0 0 ∷ []) ≡ isComplete
-unfolding outcome heldTo marked run step clashes endClash byteClash accept newTotal newFloor cut mark setBit bit
-empty-at-once k = refl
 
 -- "Pieces (0,1) and (3,1) of n = 20: waiting."
 pub two-wait : (k : Key) → after k (cut twenty 0 1 ∷ cut twenty 3 1 ∷ []) ≡ isWaiting

@@ -25,7 +25,7 @@ echo-size : (e : IcmpEcho) (p : List ℕ) → length (echoPacket e p) ≡ 28 + l
 unfolding echoPacket
 echo-size e p = simp (length-append, ip-length, echo-length) (omega arith)
 
-between-length : (s e : ℕ) (p : List ℕ) → e ≤ length p → length (between s e p) ≡ e - s
+pub between-length : (s e : ℕ) (p : List ℕ) → e ≤ length p → length (between s e p) ≡ e - s
 between-length s e p h = simp (length-take, length-drop) (omega arith)
 
 piece-size : (q : IpPiece) (p : List ℕ) → length (piecePacket q p) ≡ sizeOf (Piece q) (length p)

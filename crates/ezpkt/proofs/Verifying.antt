@@ -1,22 +1,21 @@
 -- What is built verifies: each packet's IPv4 header, and its transport checksum where it has one.
 use mathlib.Core.Path.{_≡_, refl, sym, ap, _∙_}
-use mathlib.Core.Bool.{Bool, true, false}
+use mathlib.Core.Bool.{true, false}
 use Prim.Native.Nat.{ℕ, _+_}
-use mathlib.Core.List.{List, [], _∷_, _++_, append-assoc}
-use lib.ListN.{length, take, drop, length-append}
+use mathlib.Core.List.{List, _++_}
+use lib.ListN.{length, take, drop}
 use lib.Seq.{take-at, drop-at}
 use Rattle.pkt.specs.Answers.{Answer, gives}
 use Rattle.pkt.specs.Rfc1071.{Verifies}
 use Rattle.pkt.specs.Rfc791.{ipHeader}
-use Rattle.pkt.specs.Rfc768.{pseudo, udpHeader, udpChecksum}
-use Rattle.pkt.specs.Rfc9293.{tcpHeader, tcpChecksum}
-use Rattle.pkt.specs.Rfc792.{echoHeader, echoChecksum, icmpNew, echoNew}
+use Rattle.pkt.specs.Rfc768.{pseudo, udpHeader}
+use Rattle.pkt.specs.Rfc792.{icmpNew, echoNew}
 use Rattle.pkt.specs.Written.{written, leaves}
 use Rattle.pkt.specs.declared.ipv4.«ip_hdr».{«ip_hdr»}
 use Rattle.pkt.proofs.Bytes.{Bytes}
-use Rattle.pkt.proofs.Headers.{ip-length, ip-verifies, tcp-length, tcp-verifies, udp-length, udp-verifies, echo-verifies}
+use Rattle.pkt.proofs.Headers.{ip-length, ip-verifies, tcp-verifies, udp-verifies, echo-verifies}
 use Rattle.ezpkt.specs.Answers.{builtSays}
-use Rattle.ezpkt.specs.Build.{flowIp, pieceIp, tcpHdr, udpHdr, echoType, tcpPacket, udpPacket, echoPacket, piecePacket, packetOf, answerOf, Answered}
+use Rattle.ezpkt.specs.Build.{flowIp, tcpHdr, udpHdr, echoType, tcpPacket, udpPacket, echoPacket, piecePacket, packetOf, answerOf, Answered}
 use Rattle.ezpkt.specs.declared.build.TcpSegment.{TcpSegment}
 use Rattle.ezpkt.specs.declared.build.UdpDatagram.{UdpDatagram}
 use Rattle.ezpkt.specs.declared.build.IcmpEcho.{IcmpEcho}
@@ -39,7 +38,7 @@ pub header-verifies : (q : Request) (p : List ℕ) → Verifies (take 20 (packet
 header-verifies q p = let (h, t, e) = headed q p in rw (e, take-at (ipHeader h) _ 20 (ip-length h)) (ip-verifies h)
 
 -- what stands behind an IPv4 header
-behind : (h : «ip_hdr») (t : List ℕ) → drop 20 (ipHeader h ++ t) ≡ t
+pub behind : (h : «ip_hdr») (t : List ℕ) → drop 20 (ipHeader h ++ t) ≡ t
 behind h t = drop-at (ipHeader h) t 20 (ip-length h)
 
 -- A TCP segment's checksum verifies,
