@@ -5,7 +5,7 @@ use mathlib.Core.Bool.{Bool, true, false, not}
 use mathlib.Core.List.{List, [], _∷_, _++_, append-assoc, append-nil, List·Memᴰ, List·Memᴰ·head, List·Memᴰ·not-nil, Memᴰ·append-left}
 use Prim.Native.Nat.{ℕ, zero, suc, _+_, _-_, _*_, _≤_, _<_, min}
 use native.Mathlib.Omega.{arith}
-use lib.ListN.{length, take, drop, length-append, length-take, length-drop}
+use lib.ListN.{length, take, drop, length-append}
 use lib.Seq.{slice, take-nil, take-at, drop-at, take-length}
 use lib.Dec.{eqb}
 use borrow.Author.Tests.{eq-eqb}
@@ -17,6 +17,7 @@ use Rattle.ezpkt.specs.Build.{startOf, endOf, pieceIp, between, piecePacket, pa
 use Rattle.ezpkt.specs.Ip4.{fragmentOf}
 use Rattle.ezpkt.specs.declared.ip4.Template.{Template}
 use Rattle.ezpkt.specs.declared.build.IpPiece.{IpPiece}
+use Rattle.ezpkt.proofs.Sizes.{between-length}
 use Rattle.inspect.specs.Header.{readAnswer, dataOf}
 use Rattle.inspect.proofs.Decoding.{Fit, readOf, decoded}
 use Rattle.assembly.specs.declared.Key.{Key}
@@ -35,7 +36,7 @@ use Rattle.assembly.proofs.Calls.{shown-yes}
 use Rattle.assembly.proofs.Delivers.{piecesOf, piece-from, piece-in, taken-is, taken-usable, delivers-here}
 use Rattle.demands.specs.Ranges.{Fitting}
 use Rattle.demands.specs.Assembling.{keyOf, BuiltFrom, by-fragment, by-tail, by-datagram, PastEnd, AllBuilt, Cover, taken, Reassembles}
-use Rattle.demands.proofs.Flags.{flags-most, flags-more, flags-offset}
+use Rattle.demands.proofs.Pieces.{flags-more, flags-offset, piece-fit}
 
 -- ---- the packet of a piece is read back as that piece
 
@@ -62,21 +63,11 @@ module _ (t : Template) (d : List ℕ) (fits : Fitting t) (few : length d ≤ ca
 
     body-length : length body ≡ endOf asked (length d) - startOf asked (length d)
     unfolding asked body
-    body-length = simp (length-take, length-drop) (omega arith)
+    body-length = between-length (startOf asked (length d)) (endOf asked (length d)) d (omega arith)
 
     fit : Fit header
     unfolding asked header
-    fit =
-        record {
-          tos = fits .tos;
-          total = omega arith;
-          id = fits .id;
-          frag = flags-most asked more low;
-          ttl = fits .ttl;
-          protocol = fits .protocol;
-          saddr = fits .saddr;
-          daddr = fits .daddr;
-        }
+    fit = piece-fit asked (20 + (endOf asked (length d) - startOf asked (length d))) more fits low (omega arith)
 
     wire : List ℕ
     wire = ipHeader header ++ (body ++ rest)

@@ -1,10 +1,10 @@
 -- What the check answers of the packets that are built.
-use mathlib.Core.Path.{_≡_, refl, sym, ap, ap₂, _∙_}
+use mathlib.Core.Path.{_≡_, refl, sym, ap, _∙_}
 use mathlib.Core.Bool.{Bool, true, false, not, _||_, cond}
 use Prim.Native.Nat.{ℕ, _+_, _-_, _≤_, _<_}
 use native.Mathlib.Omega.{arith}
 use mathlib.Core.List.{List, _++_, append-assoc}
-use lib.ListN.{length, take, drop, length-append, length-take, length-drop}
+use lib.ListN.{length, take, drop, length-append}
 use lib.Seq.{take-length}
 use lib.Dec.{eqb}
 use borrow.Author.Tests.{eqb-true, not-false}
@@ -29,6 +29,7 @@ use Rattle.ezpkt.specs.declared.build.Request.{Request}
 use Rattle.ezpkt.specs.declared.build.Request.the-variants.{Tcp, Udp, Echo, Piece}
 use Rattle.ezpkt.specs.declared.build.Built.the-variants.{Packet}
 use Rattle.ezpkt.proofs.Deciding.{sized-fits, piece-fits}
+use Rattle.ezpkt.proofs.Sizes.{between-length}
 use Rattle.inspect.specs.Answers.{Verdict, good}
 use Rattle.inspect.specs.Check.{isPiece, partAnswer, checkAnswer}
 use Rattle.inspect.proofs.Decoding.{Fit, readOf, check-encoded}
@@ -36,7 +37,7 @@ use Rattle.inspect.proofs.Sent.{piece-refused, tcp-good, udp-good, udp-bare, ec
 use Rattle.demands.specs.Ranges.{Fitting, Between, InRange}
 use Rattle.demands.specs.Checked.{more, udpVerdict, checkOf}
 use Rattle.demands.proofs.Left.{left-by}
-use Rattle.demands.proofs.Flags.{flags-most, flags-more, flags-offset}
+use Rattle.demands.proofs.Pieces.{piece-fit, piece-read}
 
 -- an encoded header with its data part, which is answered v where it is no piece
 judged : (h : «ip_hdr») (d r : List ℕ) (v : Answer Verdict) → Fit h → h .«tot_len» ≡ 20 + length d
@@ -103,10 +104,6 @@ echo-checked e p r range bp few =
 
 -- ---- pieces
 
-pub piece-read : (q : IpPiece) (size : ℕ) (m : Bool) → q .off ≤ 8191 → isPiece (readOf (pieceIp q size m)) ≡ m || not (eqb (q .off) 0)
-unfolding readOf
-piece-read q size m h = ap₂ (λ (a : Bool) (b : ℕ). a || not (eqb b 0)) (flags-more q m h) (flags-offset q m h)
-
 module _ (q : IpPiece) (p : List ℕ) where
   -- a piece from start up to end, judged
   pieced : ℕ → ℕ → Bool → Answer Verdict
@@ -136,20 +133,10 @@ module _ (q : IpPiece) (p : List ℕ) where
       let m : Bool = more q (length p) in
       let h : «ip_hdr» = pieceIp q (20 + (end - start)) m in
       let d : List ℕ = between start end p in
-      let size : length d ≡ end - start = simp (length-take, length-drop) (omega arith) in
+      let size : length d ≡ end - start = between-length start end p (omega arith) in
       let v : Answer Verdict = partAnswer (readOf (pieceIp q (20 + length p) false)) p in
       let field = piece-read q (20 + (end - start)) m off in
-      let fit : Fit h =
-      record {
-        tos = fits .tos;
-        total = omega arith;
-        id = fits .id;
-        frag = flags-most q m off;
-        ttl = fits .ttl;
-        protocol = fits .protocol;
-        saddr = fits .saddr;
-        daddr = fits .daddr;
-      } in
+      let fit = piece-fit q (20 + (end - start)) m fits off (omega arith) in
       judged h d r v fit (omega arith) (λ whole. whole-piece (sym field ∙ whole)) ∙ ap (λ (t : Bool). cond t (refused 13) v) field
 
 -- ---- all four

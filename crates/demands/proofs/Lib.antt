@@ -1,5 +1,5 @@
 pub mod Left
-pub mod Flags
+pub mod Pieces
 pub mod Handing
 pub mod Assembling
 pub mod Checked

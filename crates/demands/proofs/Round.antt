@@ -5,17 +5,13 @@ use mathlib.Core.List.{List, [], _∷_, _++_}
 use Prim.Native.Nat.{ℕ, _+_, _*_, _≤_, min}
 use native.Mathlib.Omega.{arith}
 use lib.ListN.{length, drop, length-drop}
-use lib.Seq.{drop-at}
 use lib.Dec.{eqb}
 use borrow.Author.Tests.{eq-eqb}
 use Rattle.pkt.specs.Answers.{gives}
-use Rattle.pkt.specs.Rfc791.{ipHeader}
 use Rattle.pkt.specs.Rfc768.{udpHeader, udpChecksum}
 use Rattle.pkt.specs.Rfc792.{icmpNew, echoNew}
-use Rattle.pkt.specs.declared.ipv4.«ip_hdr».{«ip_hdr»}
 use Rattle.pkt.proofs.Bytes.{Bytes}
 use Rattle.pkt.proofs.Choice.{pick-no}
-use Rattle.pkt.proofs.Headers.{ip-length}
 use Rattle.ezpkt.specs.Build.{flowIp, tcpHdr, tcpPacket, udpHdr, udpPacket, echoType, echoPacket, pieceIp, packetOf, answerOf, Answered}
 use Rattle.ezpkt.specs.Ip4.{datagramOf}
 use Rattle.ezpkt.specs.declared.ip4.Template.{Template}
@@ -27,7 +23,7 @@ use Rattle.ezpkt.specs.declared.build.Request.{Request}
 use Rattle.ezpkt.specs.declared.build.Request.the-variants.{Tcp, Udp, Echo, Piece}
 use Rattle.ezpkt.specs.declared.build.Built.the-variants.{Packet}
 use Rattle.ezpkt.proofs.Deciding.{sized-fits, piece-fits}
-use Rattle.ezpkt.proofs.Verifying.{built-packet}
+use Rattle.ezpkt.proofs.Verifying.{behind, built-packet}
 use Rattle.inspect.specs.Answers.{good}
 use Rattle.inspect.specs.Check.{isPiece, partAnswer, checkAnswer}
 use Rattle.inspect.specs.declared.header.IpRead.{IpRead}
@@ -44,11 +40,8 @@ use Rattle.demands.specs.Round.{payloadIn, CutBy, of-fragment, of-tail, 
 use Rattle.demands.proofs.Left.{left-by}
 use Rattle.demands.proofs.Handing.{handed-is, complete-told}
 use Rattle.demands.proofs.Assembling.{reassembles}
-use Rattle.demands.proofs.Checked.{piece-read, piece-checked}
-
--- what stands behind an IPv4 header
-behind : (h : «ip_hdr») (l : List ℕ) → drop 20 (ipHeader h ++ l) ≡ l
-behind h l = drop-at (ipHeader h) l 20 (ip-length h)
+use Rattle.demands.proofs.Pieces.{piece-read}
+use Rattle.demands.proofs.Checked.{piece-checked}
 
 -- What the calls that cut leave is what they are asked for.
 cut-built : (t : Template) (d l : List ℕ) → CutBy t d l → BuiltFrom t d l

@@ -1,13 +1,16 @@
--- The bits and the offset of a piece's field are read back.
-use mathlib.Core.Path.{_≡_}
-use mathlib.Core.Bool.{Bool, true, false}
+-- The header of a piece: its numbers fit their fields, and MF and the offset are read back.
+use mathlib.Core.Path.{_≡_, ap₂}
+use mathlib.Core.Bool.{Bool, true, false, not, _||_}
 use Prim.Native.Nat.{ℕ, _+_, _*_, _/_, _%_, _≤_, _<_}
 use native.Mathlib.Omega.{arith}
 use lib.Dec.{eqb}
 use borrow.Author.Tests.{eq-eqb, ne-eqb}
-use Rattle.ezpkt.specs.Build.{bit, pieceFlags}
+use Rattle.ezpkt.specs.Build.{bit, pieceFlags, pieceIp}
 use Rattle.ezpkt.specs.declared.build.IpPiece.{IpPiece}
 use Rattle.inspect.specs.Header.{hasBit}
+use Rattle.inspect.specs.Check.{isPiece}
+use Rattle.inspect.proofs.Decoding.{Fit, readOf}
+use Rattle.demands.specs.Ranges.{Fitting}
 
 ones : Bool → ℕ
 ones b = bit b 1
@@ -39,3 +42,20 @@ flags-more q m h =
 
 pub flags-offset : (q : IpPiece) (m : Bool) → q .off ≤ 8191 → pieceFlags q m % 0x2000 ≡ q .off
 flags-offset q m h = omega (arith, flags-is q m, ones-most (q .template .evil), ones-most (q .template .df), ones-most m)
+
+pub piece-fit : (q : IpPiece) (size : ℕ) (m : Bool) → Fitting (q .template) → q .off ≤ 8191 → size < 65536 → Fit (pieceIp q size m)
+piece-fit q size m fits off few =
+    record {
+      tos = fits .tos;
+      total = few;
+      id = fits .id;
+      frag = flags-most q m off;
+      ttl = fits .ttl;
+      protocol = fits .protocol;
+      saddr = fits .saddr;
+      daddr = fits .daddr;
+    }
+
+pub piece-read : (q : IpPiece) (size : ℕ) (m : Bool) → q .off ≤ 8191 → isPiece (readOf (pieceIp q size m)) ≡ m || not (eqb (q .off) 0)
+unfolding readOf
+piece-read q size m h = ap₂ (λ (a : Bool) (b : ℕ). a || not (eqb b 0)) (flags-more q m h) (flags-offset q m h)
