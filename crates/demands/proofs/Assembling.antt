@@ -210,6 +210,9 @@ module _ (t : Template) (d : List ℕ) (fits : Fitting t) (few : length d ≤ ca
         clash = here (keyOf t) .past-end d (x .off) (x .len) (x .past) p part last;
       })
 
+  -- Demand 3: "If all were built from one payload of at most 65,515 bytes under one header with the assembly's key, none asked for past its
+  -- end, all are accepted and the state is never spoilt. It is complete exactly when at least one was handed in and together they cover the
+  -- payload, and it then holds that payload."
   pub reassembles : Reassembles t d
   reassembles =
       record {
@@ -225,7 +228,7 @@ module _ (t : Template) (d : List ℕ) (fits : Fitting t) (few : length d ≤ ca
         past-end-spoils = past-spoils;
       }
 
--- `tail` carries all from its offset on and says that nothing follows; `datagram` carries the payload.
+-- "`tail` takes len = n; `datagram` carries all with offset 0 and MF clear": the one says that nothing follows, the other carries the payload.
 pub tail-last : (d : List ℕ) (off : ℕ) → cut d off (length d) .mf ≡ false
 unfolding cut
 tail-last d off = let e : min (8 * off + 8 * length d) (length d) ≡ length d = omega arith in ap not (eq-eqb _ _ e)

@@ -141,7 +141,8 @@ module _ (q : IpPiece) (p : List ℕ) where
 
 -- ---- all four
 
--- Every packet that is built, whatever stands behind it, is answered what its request is owed.
+-- "It answers good, good without checksum (UDP field 0), or a refusal. Bytes after the total length are ignored": every packet that is built,
+-- whatever stands behind it, is answered what its request is owed.
 pub packet-checked : (q : Request) (p r : List ℕ) (room n : ℕ) → InRange q → Bytes p → answerOf q (length p) room ≡ gives n
     → checkAnswer (packetOf q p ++ r) ≡ checkOf q p
 packet-checked (Tcp t) p r room n range bp e = tcp-checked t p r range bp (sized-fits 65495 40 (length p) room n e .few)

@@ -51,6 +51,7 @@ pushed-left a n x b b′ e q = q ∙ ap (λ r. afterPushed r x b) (sym e)
 copied-left : (a : Copied) (n : ℕ) (x o o′ : List ℕ) → copied.Refused n ≡ a → o′ ≡ afterCopied a x o → o′ ≡ o
 copied-left a n x o o′ e q = q ∙ ap (λ r. afterCopied r x o) (sym e)
 
+-- Demand 1: "A refused call changes no lent byte, no flow and no assembly."
 pub refused-keep : RefusedKeep
 refused-keep =
     record {

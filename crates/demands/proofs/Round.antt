@@ -36,7 +36,8 @@ use Rattle.assembly.specs.Calls.{capacity, mapBytes, shown}
 use Rattle.demands.specs.Ranges.{Fitting}
 use Rattle.demands.specs.Checked.{udpVerdict}
 use Rattle.demands.specs.Assembling.{keyOf, BuiltFrom, by-fragment, by-tail, by-datagram}
-use Rattle.demands.specs.Round.{payloadIn, CutBy, of-fragment, of-tail, of-datagram, Names, Carries, verdictOf, by-take, Finished, heldOf, RoundTrip}
+use Rattle.demands.specs.Handing.{by-take}
+use Rattle.demands.specs.Round.{payloadIn, CutBy, of-fragment, of-tail, of-datagram, Names, Carries, verdictOf, Finished, heldOf, RoundTrip}
 use Rattle.demands.proofs.Left.{left-by}
 use Rattle.demands.proofs.Handing.{handed-is, complete-told}
 use Rattle.demands.proofs.Assembling.{reassembles}
@@ -112,6 +113,9 @@ datagram-checked t d o b n fits few x =
     ∙ piece-checked q d _ fits (omega arith) few
     ∙ pick-no _ _ (ap (λ (e : Bool). not e || not (eqb 0 0)) (eq-eqb _ _ all))
 
+-- Demand 3: "It is complete exactly when at least one was handed in and together they cover the payload, and it then holds that payload",
+-- over the calls that build, cut, assemble and check: what is put together again is the IPv4 payload of the packet that was built, and the
+-- datagram that is built of it is good.
 pub round-trip : (t : Template) (q : Request) (p o b : List ℕ) (n : ℕ) → Fitting t → Carries t q → Bytes p → Answered q p o (Packet n) b
     → RoundTrip t (verdictOf q) (payloadIn n b)
 round-trip t q p o b n fits c bp x =

@@ -13,6 +13,7 @@ use Rattle.assembly.specs.Carried.{sameKey, broken, fitAnswer, judgeAnswer, hea
 use Rattle.assembly.specs.Calls.{sized, usable, takeAnswer}
 use Rattle.demands.specs.Worked.{AllHold, syn, datagram, handshake, numbersAt, rolled, pieceAt, fieldAndData, cases}
 
+-- 'Checked by hand': "Those marked P are proved together, as a single statement over a list of cases".
 pub worked : AllHold cases
 unfolding syn datagram handshake numbersAt rolled pieceAt fieldAndData fieldAt value tcpPacket udpPacket piecePacket ipHeader ipBytes tcpHeader tcpChecksum udpHeader udpChecksum nonzero pseudo checksum words sum plus takeAnswer usable sized recordFits totalFits pieceAnswer headAnswer judgeAnswer fitAnswer broken sameKey readAnswer frameAnswer headerOf step clashes endClash byteClash accept newTotal newFloor outcome heldTo marked mark setBit bit
 worked = (refl, (refl, (refl, (refl, (refl, (refl, (refl, (refl, (refl, (refl, (refl, (refl, (refl, (refl, (refl, (refl, tt))))))))))))))))

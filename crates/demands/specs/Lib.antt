@@ -1,4 +1,5 @@
 pub mod Ranges
+pub mod Handing
 pub mod Assembling
 pub mod Checked
 pub mod Refusals

@@ -20,6 +20,7 @@ use Rattle.assembly.specs.declared.Taken.the-variants.{Complete}
 use Rattle.assembly.specs.View.{view}
 use Rattle.assembly.specs.Answers.{takenSays, recAfter}
 use Rattle.assembly.specs.Calls.{capacity, mapBytes, Opens, Takes, shown}
+use Rattle.demands.specs.Handing.{Handed}
 use Rattle.demands.specs.Assembling.{keyOf, BuiltFrom, taken, Reassembles}
 use Rattle.demands.specs.Checked.{udpVerdict}
 
@@ -52,13 +53,6 @@ verdictOf (Tcp x) = good
 verdictOf (Udp x) = udpVerdict (x .csum)
 verdictOf (Echo x) = good
 verdictOf (Piece x) = good
-
--- An assembly's record and buffers after it was opened for k and the packets ls were handed in, one call of `take` after the other. A call
--- that is refused hands no record back, and the caller goes on with its own.
-pub data Handed (k : Key) : List (List ℕ) → Rec → List ℕ → List ℕ → Type 0 where
-  by-open : (d m d′ m′ : List ℕ) (r : Rec) → Opens capacity mapBytes k d m (Open r) d′ m′ → Handed k [] r d′ m′
-  by-take : (ls : List (List ℕ)) (l d m d′ m′ : List ℕ) (r : Rec) (a : Taken) → Handed k ls r d m → Takes capacity mapBytes (view r d m) l a d′ m′
-      → Handed k (ls ++ (l ∷ [])) (recAfter (takenSays a) r) d′ m′
 
 -- Pieces of d under t, as the calls left them, were handed in, and the last call of `take` answered complete: the record r and the buffers
 -- after it.
