@@ -17,7 +17,7 @@ use Rattle.assembly.proofs.Steps.{view-of, record-of}
 use Rattle.assembly.proofs.Delivers.{says-complete, delivers-here}
 use Rattle.demands.specs.Handing.{Handed, by-open, by-take, InAnyOrder}
 
-take-one-more : (s : State) (ls : List (List ℕ)) (l : List ℕ)
+pub take-one-more : (s : State) (ls : List (List ℕ)) (l : List ℕ)
     → takeAll capacity mapBytes s (ls ++ (l ∷ [])) ≡ after capacity mapBytes (takeAll capacity mapBytes s ls) l
 unfolding takeAll
 take-one-more s [] l = refl

@@ -5,5 +5,6 @@ pub mod Assembling
 pub mod Checked
 pub mod Numbers
 pub mod Refusals
+pub mod Completing
 pub mod Round
 pub mod Worked

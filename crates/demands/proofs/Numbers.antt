@@ -5,8 +5,7 @@ use mathlib.Core.List.{List, [], _∷_}
 use Prim.Native.Nat.{ℕ, _+_, _*_}
 use lib.Dec.{ltb, eqb}
 use lib.ListN.{length, take}
-use Rattle.pkt.specs.Answers.{Answer, refused, gives, unlessLong, sumSays}
-use Rattle.ezpkt.specs.Answers.{builtSays}
+use Rattle.pkt.specs.Answers.{Answer, refused, gives}
 use Rattle.ezpkt.specs.Build.{sizeOf, sizedAnswer, answerOf}
 use Rattle.ezpkt.specs.Icmp4 as icmp
 use Rattle.tcp4.specs.Tcp4 as tcp
@@ -14,13 +13,12 @@ use Rattle.ezpkt.specs.declared.build.Request.{Request}
 use Rattle.ezpkt.specs.declared.build.Request.the-variants.{Tcp, Udp, Echo, Piece}
 use Rattle.ezpkt.specs.declared.icmp4.IcmpFlow.{IcmpFlow}
 use Rattle.tcp4.specs.declared.TcpFlow.{TcpFlow}
-use Rattle.inspect.specs.Answers.{andThen, Verdict, good}
+use Rattle.inspect.specs.Answers.{andThen, good}
 use Rattle.inspect.specs.Header.{fieldAt, headerOf, frameAnswer, verifies, readAnswer, dataOf}
-use Rattle.inspect.specs.Check.{isPiece, isOther, isCut, kindOf, wholeAnswer, between, unlessBad, verdictOf, partAnswer, checkAnswer}
+use Rattle.inspect.specs.Check.{isPiece, isOther, isCut, wholeAnswer, between, verdictOf, checkAnswer}
 use Rattle.inspect.specs.declared.header.IpRead.{IpRead}
 use Rattle.inspect.specs.declared.check.Kind.{Kind}
 use Rattle.inspect.specs.declared.check.Kind.the-variants as kind
-use Rattle.assembly.specs.declared.Key.{Key}
 use Rattle.assembly.specs.Assembly.{State, opened, step}
 use Rattle.assembly.specs.View.{recordOf}
 use Rattle.assembly.specs.Answers.{replyOf, mapped}

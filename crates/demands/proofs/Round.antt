@@ -31,24 +31,20 @@ use Rattle.inspect.proofs.Decoding.{readOf}
 use Rattle.inspect.proofs.Sent.{tcp-good, udp-good, udp-bare, echo-good}
 use Rattle.assembly.specs.declared.Rec.{Rec}
 use Rattle.assembly.specs.declared.Taken.the-variants.{Complete}
+use Rattle.assembly.specs.Answers.{reply}
 use Rattle.assembly.specs.Assembly.{complete}
 use Rattle.assembly.specs.Calls.{capacity, mapBytes, shown}
 use Rattle.demands.specs.Ranges.{Fitting}
 use Rattle.demands.specs.Checked.{udpVerdict}
-use Rattle.demands.specs.Assembling.{keyOf, BuiltFrom, by-fragment, by-tail, by-datagram}
+use Rattle.demands.specs.Assembling.{keyOf}
 use Rattle.demands.specs.Handing.{by-take}
-use Rattle.demands.specs.Round.{payloadIn, CutBy, of-fragment, of-tail, of-datagram, Names, Carries, verdictOf, Finished, heldOf, RoundTrip}
+use Rattle.demands.specs.Round.{payloadIn, Names, Carries, verdictOf, Finished, heldOf, RoundTrip}
 use Rattle.demands.proofs.Left.{left-by}
 use Rattle.demands.proofs.Handing.{handed-is, complete-told}
 use Rattle.demands.proofs.Assembling.{reassembles}
+use Rattle.demands.proofs.Completing.{cut-built, completes}
 use Rattle.demands.proofs.Pieces.{piece-read}
 use Rattle.demands.proofs.Checked.{piece-checked}
-
--- What the calls that cut leave is what they are asked for.
-cut-built : (t : Template) (d l : List ℕ) → CutBy t d l → BuiltFrom t d l
-cut-built t d l (of-fragment off len n o h x) = by-fragment off len _ h (left-by _ d o l n x)
-cut-built t d l (of-tail off n o h x) = by-tail off _ h (left-by _ d o l n x)
-cut-built t d l (of-datagram n o x) = by-datagram _ (left-by _ d o l n x)
 
 -- `datagram`'s request for n bytes
 abbrev asked : Template → ℕ → IpPiece
@@ -135,6 +131,9 @@ round-trip t q p o b n fits c bp x =
       assembles = reassembles t d fits few;
       pieces = cut-built t d;
       handing = handed-is (keyOf t);
+      completes =
+          λ before last r payload map payload′ map′ a handed call all.
+          completes t d (reassembles t d fits few) before last all r payload map handed a payload′ map′ call;
       assembled = held;
       checked =
           λ r payload map f o₂ b₂ n₂ y.

@@ -4,7 +4,6 @@ use mathlib.Core.Bool.{Bool, true, false, _||_}
 use mathlib.Core.List.{List, [], _∷_}
 use Prim.Native.Nat.{ℕ}
 use lib.Dec.{eqb}
-use lib.ListN.{length}
 use Rattle.pkt.specs.Answers.{Answer, refused, gives, unlessLong, sumSays}
 use Rattle.pkt.specs.declared.ipv4.Sum.{Sum}
 use Rattle.ezpkt.specs.Answers.{builtSays}

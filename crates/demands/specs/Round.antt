@@ -1,5 +1,6 @@
 -- Build, cut, assemble, check: a packet that is built, whose IPv4 payload is cut, is put together again and checked.
 use mathlib.Core.Path.{_≡_}
+use mathlib.Core.Logic.{_↔_}
 use mathlib.Core.List.{List, [], _∷_, _++_, List·Memᴰ}
 use Prim.Native.Nat.{ℕ, _*_, _≤_}
 use lib.ListN.{length, take, drop}
@@ -12,16 +13,14 @@ use Rattle.ezpkt.specs.declared.build.Request.the-variants.{Tcp, Udp, Echo, Pie
 use Rattle.ezpkt.specs.declared.build.Built.the-variants.{Packet}
 use Rattle.inspect.specs.Answers.{Verdict, good}
 use Rattle.inspect.specs.Check.{checkAnswer}
-use Rattle.assembly.specs.declared.Key.{Key}
 use Rattle.assembly.specs.declared.Rec.{Rec}
-use Rattle.assembly.specs.declared.Opened.the-variants.{Open}
+use Rattle.assembly.specs.declared.Taken.{Taken}
 use Rattle.assembly.specs.declared.Taken.{Taken}
 use Rattle.assembly.specs.declared.Taken.the-variants.{Complete}
 use Rattle.assembly.specs.View.{view}
-use Rattle.assembly.specs.Answers.{takenSays, recAfter}
-use Rattle.assembly.specs.Calls.{capacity, mapBytes, Opens, Takes, shown}
+use Rattle.assembly.specs.Calls.{capacity, mapBytes, Takes, shown}
 use Rattle.demands.specs.Handing.{Handed}
-use Rattle.demands.specs.Assembling.{keyOf, BuiltFrom, taken, Reassembles}
+use Rattle.demands.specs.Assembling.{keyOf, BuiltFrom, Cover, taken, Reassembles}
 use Rattle.demands.specs.Checked.{udpVerdict}
 
 -- the IPv4 payload of a packet of n bytes that a call left at the start of the output b
@@ -78,7 +77,11 @@ pub record RoundTrip (t : Template) (v : Verdict) (d : List ℕ) : Type 0 where
   pub pieces : (l : List ℕ) → CutBy t d l → BuiltFrom t d l
   -- and the calls of an assembly lead where demand 3 says.
   pub handing : (ls : List (List ℕ)) (r : Rec) (payload map : List ℕ) → Handed (keyOf t) ls r payload map → view r payload map ≡ taken t ls
-  -- So when the pieces are put together, `held` answers d,
+  -- "It is complete exactly when at least one was handed in and together they cover the payload": so answers the call that hands in the last,
+  pub completes : (before : List (List ℕ)) (last : List ℕ) (r : Rec) (payload map payload′ map′ : List ℕ) (a : Taken) → Handed (keyOf t) before r payload map
+      → Takes capacity mapBytes (view r payload map) last a payload′ map′ → AllCut t d (before ++ (last ∷ []))
+      → ((r′ : Rec) × (a ≡ Complete r′)) ↔ Cover (keyOf t) (before ++ (last ∷ [])) (length d)
+  -- "and it then holds that payload": `held` answers d,
   pub assembled : (r : Rec) (payload map : List ℕ) → Finished t d r payload map → heldOf r payload map ≡ d
   -- and what `datagram` builds of that is checked as it deserves.
   pub checked : (r : Rec) (payload map : List ℕ) → Finished t d r payload map → (o b : List ℕ) (n : ℕ)
