@@ -19,7 +19,8 @@ use Rattle.ezpkt.specs.declared.ip4.Template.{Template}
 use Rattle.ezpkt.specs.declared.build.IpPiece.{IpPiece}
 use Rattle.ezpkt.proofs.Sizes.{between-length}
 use Rattle.inspect.specs.Header.{readAnswer, dataOf}
-use Rattle.inspect.proofs.Decoding.{Fit, readOf, decoded}
+use Rattle.inspect.specs.Encoded.{readOf}
+use Rattle.inspect.proofs.Decoding.{Fit, decoded}
 use Rattle.assembly.specs.declared.Key.{Key}
 use Rattle.assembly.specs.Piece.{Piece, end, Acceptable, _∈_}
 use Rattle.assembly.specs.Assembly.{State, opened, step, run, complete, whole}

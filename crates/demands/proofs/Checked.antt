@@ -32,7 +32,8 @@ use Rattle.ezpkt.proofs.Deciding.{sized-fits, piece-fits}
 use Rattle.ezpkt.proofs.Sizes.{between-length}
 use Rattle.inspect.specs.Answers.{Verdict, good}
 use Rattle.inspect.specs.Check.{isPiece, partAnswer, checkAnswer}
-use Rattle.inspect.proofs.Decoding.{Fit, readOf, check-encoded}
+use Rattle.inspect.specs.Encoded.{readOf}
+use Rattle.inspect.proofs.Decoding.{Fit, check-encoded}
 use Rattle.inspect.proofs.Sent.{piece-refused, tcp-good, udp-good, udp-bare, echo-good}
 use Rattle.demands.specs.Ranges.{Fitting, Between, InRange}
 use Rattle.demands.specs.Checked.{more, udpVerdict, checkOf}

@@ -9,7 +9,8 @@ use Rattle.ezpkt.specs.Build.{bit, pieceFlags, pieceIp}
 use Rattle.ezpkt.specs.declared.build.IpPiece.{IpPiece}
 use Rattle.inspect.specs.Header.{hasBit}
 use Rattle.inspect.specs.Check.{isPiece}
-use Rattle.inspect.proofs.Decoding.{Fit, readOf}
+use Rattle.inspect.specs.Encoded.{readOf}
+use Rattle.inspect.proofs.Decoding.{Fit}
 use Rattle.demands.specs.Ranges.{Fitting}
 
 ones : Bool → ℕ
@@ -33,7 +34,7 @@ test-is false x e = ne-eqb x 1 (λ z. omega arith)
 flags-is : (q : IpPiece) (m : Bool) → pieceFlags q m ≡ 32768 * ones (q .template .evil) + 16384 * ones (q .template .df) + 8192 * ones m + q .off
 flags-is q m = simp (bit-is (q .template .evil) 32768, bit-is (q .template .df) 16384, bit-is m 8192)
 
-pub flags-most : (q : IpPiece) (m : Bool) → q .off ≤ 8191 → pieceFlags q m < 65536
+flags-most : (q : IpPiece) (m : Bool) → q .off ≤ 8191 → pieceFlags q m < 65536
 flags-most q m h = omega (arith, flags-is q m, ones-most (q .template .evil), ones-most (q .template .df), ones-most m)
 
 pub flags-more : (q : IpPiece) (m : Bool) → q .off ≤ 8191 → hasBit 0x2000 (pieceFlags q m) ≡ m

@@ -27,7 +27,7 @@ use Rattle.ezpkt.proofs.Verifying.{behind, built-packet}
 use Rattle.inspect.specs.Answers.{good}
 use Rattle.inspect.specs.Check.{isPiece, partAnswer, checkAnswer}
 use Rattle.inspect.specs.declared.header.IpRead.{IpRead}
-use Rattle.inspect.proofs.Decoding.{readOf}
+use Rattle.inspect.specs.Encoded.{readOf}
 use Rattle.inspect.proofs.Sent.{tcp-good, udp-good, udp-bare, echo-good}
 use Rattle.assembly.specs.declared.Rec.{Rec}
 use Rattle.assembly.specs.declared.Taken.the-variants.{Complete}

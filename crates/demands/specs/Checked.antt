@@ -12,7 +12,7 @@ use Rattle.ezpkt.specs.declared.build.Request.the-variants.{Tcp, Udp, Echo, Pie
 use Rattle.inspect.specs.Answers.{Verdict, good, noChecksum}
 use Rattle.inspect.specs.Header.{hasBit}
 use Rattle.inspect.specs.Check.{partAnswer}
-use Rattle.inspect.proofs.Decoding.{readOf}
+use Rattle.inspect.specs.Encoded.{readOf}
 
 -- MF set or offset not 0, in the whole 16-bit field
 abbrev pub pieceField : ℕ → Bool

@@ -9,7 +9,7 @@ use lib.Seq.{take-at, drop-at}
 use lib.Dec.{eqb}
 use borrow.Author.Tests.{le-ltb, eq-eqb}
 use Rattle.pkt.specs.Answers.{Answer, refused, gives}
-use Rattle.pkt.specs.Fields.{Field, field, fields, widths}
+use Rattle.pkt.specs.Fields.{Field, field, widths}
 use Rattle.pkt.specs.Rfc1071.{checksum}
 use Rattle.pkt.specs.Rfc791.{ipFields, ipBytes, ipHeader}
 use Rattle.pkt.specs.declared.ipv4.«ip_hdr».{«ip_hdr»}
@@ -17,6 +17,7 @@ use Rattle.pkt.proofs.Fields.{field-at}
 use Rattle.pkt.proofs.Headers.{ip-length, ip-verifies}
 use Rattle.inspect.specs.Answers.{andThen}
 use Rattle.inspect.specs.Header.{fieldAt, hasBit, headerOf, frameAnswer, verifies, readAnswer, dataOf}
+use Rattle.inspect.specs.Encoded.{readOf}
 use Rattle.inspect.specs.Check.{partAnswer, checkAnswer}
 use Rattle.inspect.specs.declared.header.IpRead.{IpRead}
 use Rattle.inspect.proofs.Reading.{summed}
@@ -31,25 +32,6 @@ pub record Fit (h : «ip_hdr») : Type 0 where
   pub protocol : h .protocol < 256
   pub saddr : h .saddr < 4294967296
   pub daddr : h .daddr < 4294967296
-
--- what a header that was encoded says
-unfoldable pub readOf : «ip_hdr» → IpRead
-readOf h =
-    record {
-      tos = h .tos;
-      «tot_len» = h .«tot_len»;
-      id = h .id;
-      evil = hasBit 0x8000 (h .«frag_off»);
-      df = hasBit 0x4000 (h .«frag_off»);
-      mf = hasBit 0x2000 (h .«frag_off»);
-      off = h .«frag_off» % 0x2000;
-      ttl = h .ttl;
-      protocol = h .protocol;
-      saddr = h .saddr;
-      daddr = h .daddr;
-      start = 20;
-      end = h .«tot_len»;
-    }
 
 -- a bit that is read off a number, put back
 bit-back : (n y : ℕ) → y < 2 → cond (eqb y 1) n 0 ≡ n * y
