@@ -76,8 +76,8 @@ module _ (C : ℕ) (k : Key) where
   same-pieces : (ls ms : List (List ℕ)) → SamePackets C k ls ms → Same (piecesOf C k ls) (piecesOf C k ms)
   same-pieces ls ms s =
       record {
-        to = λ p m. let t = piece-from ls p m in piece-in ms (t .0) p (record { handed = s .to (t .0) p (t .1); carries = t .1 .carries });
-        from = λ p m. let t = piece-from ms p m in piece-in ls (t .0) p (record { handed = s .from (t .0) p (t .1); carries = t .1 .carries });
+        to = λ p m. let t = piece-from ls p m in let u = s .to (t .0) p (t .1) in piece-in ms (u .0) p (u .1);
+        from = λ p m. let t = piece-from ms p m in let u = s .from (t .0) p (t .1) in piece-in ls (u .0) p (u .1);
       }
 
   contradicts : (ls : List (List ℕ)) → Contradictory (piecesOf C k ls) ↔ TwoContradict C k ls

@@ -30,10 +30,11 @@ pub record Accepted (C : ℕ) (k : Key) (ls : List (List ℕ)) (l : List ℕ) (p
   pub handed : List·Memᴰ l ls
   pub carries : pieceAnswer C k l ≡ gives p
 
--- "The same accepted pieces, in any order and with any repeats"; refused ones do not count
+-- "The same accepted pieces, in any order and with any repeats": a piece that a packet of the one list carries, one of the other carries too.
+-- Refused packets do not count, nor does what a packet says besides its piece.
 pub record SamePackets (C : ℕ) (k : Key) (ls ms : List (List ℕ)) : Type 0 where
-  pub to : (l : List ℕ) (p : Piece) → Accepted C k ls l p → List·Memᴰ l ms
-  pub from : (l : List ℕ) (p : Piece) → Accepted C k ms l p → List·Memᴰ l ls
+  pub to : (l : List ℕ) (p : Piece) → Accepted C k ls l p → (m : List ℕ) × Accepted C k ms m p
+  pub from : (m : List ℕ) (p : Piece) → Accepted C k ms m p → (l : List ℕ) × Accepted C k ls l p
 
 -- "two of them contradict each other"
 pub record TwoContradict (C : ℕ) (k : Key) (ls : List (List ℕ)) : Type 0 where
