@@ -18,6 +18,7 @@ const CAPACITY: usize = 65515;
 const MAP_BYTES: usize = 1024;
 
 // "source, destination and identification"
+#[repr(C)]
 pub struct Key {
     pub saddr: u32,
     pub daddr: u32,

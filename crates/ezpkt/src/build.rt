@@ -8,6 +8,7 @@ ghost use Rattle.ezpkt.specs.Answers.{builtSays};
 ghost use Rattle.ezpkt.specs.Build.{sizedAnswer, pieceAnswer, answerOf, Answered};
 
 // A TCP segment between two addresses and ports.
+#[repr(C)]
 pub struct TcpSegment {
     pub saddr: u32,
     pub daddr: u32,
@@ -20,6 +21,7 @@ pub struct TcpSegment {
 }
 
 // A UDP datagram between two addresses and ports, with a checksum or with none.
+#[repr(C)]
 pub struct UdpDatagram {
     pub saddr: u32,
     pub daddr: u32,
@@ -30,6 +32,7 @@ pub struct UdpDatagram {
 }
 
 // An ICMP echo, or the reply to one, with its number.
+#[repr(C)]
 pub struct IcmpEcho {
     pub saddr: u32,
     pub daddr: u32,
@@ -38,6 +41,7 @@ pub struct IcmpEcho {
 }
 
 // A piece of an IPv4 payload: len blocks of 8 bytes from block off.
+#[repr(C)]
 pub struct IpPiece {
     pub template: Template,
     pub off: u16,

@@ -9,6 +9,7 @@ ghost use Rattle.ezpkt.specs.Answers.{builtSays};
 ghost use Rattle.ezpkt.specs.Icmp4.{newFlow, sentSays, withFlow, Echoed, pingOf, pongOf, pinged, ponged};
 
 // The numbers of the next echo and of the next reply. They count apart.
+#[repr(C)]
 pub struct IcmpFlow {
     pub cl: u32,
     pub sv: u32,

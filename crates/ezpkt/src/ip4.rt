@@ -9,6 +9,7 @@ ghost use Rattle.ezpkt.specs.Build.{Answered};
 ghost use Rattle.ezpkt.specs.Ip4.{fragmentOf, tailOf, datagramOf};
 
 // What every piece of a payload says in its header.
+#[repr(C)]
 pub struct Template {
     pub tos: u8,
     pub id: u16,

@@ -7,6 +7,7 @@ pub mod udp4;
 mod write;
 
 // An address and a port.
+#[repr(C)]
 pub struct SocketAddrV4 {
     pub ip: u32,
     pub port: u16,

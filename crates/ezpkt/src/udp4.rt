@@ -11,6 +11,7 @@ ghost use mathlib.Core.Path.{_≡_};
 ghost use lib.ListN.{take, drop};
 ghost use Rattle.ezpkt.specs.declared.build.Request.the-variants.{Udp};
 
+#[repr(C)]
 pub struct UdpFlow {
     pub cl: SocketAddrV4,
     pub sv: SocketAddrV4,

@@ -17,6 +17,7 @@ ghost use Rattle.packet.specs.Answers.{numberOf, emptyOf, bitTimeOf, sli
 const MOST_END: usize = 1048576;
 
 // A packet: the bytes of the buffer from the headroom up to, not including, the end.
+#[repr(C)]
 pub struct Packet {
     pub headroom: usize,
     pub end: usize,

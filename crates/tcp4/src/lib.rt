@@ -29,6 +29,7 @@ pub enum Side {
 }
 
 // The two ends, and the next sequence number of each.
+#[repr(C)]
 pub struct TcpFlow {
     pub cl: SocketAddrV4,
     pub sv: SocketAddrV4,
@@ -58,6 +59,7 @@ pub struct Pushed {
 }
 
 // The flow after a header, and the header.
+#[repr(C)]
 pub struct Header {
     pub flow: TcpFlow,
     pub bytes: [u8; 20],
