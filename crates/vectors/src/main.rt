@@ -1,11 +1,11 @@
 // Reads the file of calls and of what the Rust answered (oracle/FORMAT.md), makes each call through
 // this library and compares: every number, every length, every byte of every packet, or its digest
 // where the file has only that, every flow and every record after it, and that the bytes behind what
-// was written stay (answer.rt and headroom.rt say which are looked at). A refusal is a difference.
+// was written stay (the crates replay and replay_packets say which are looked at). A refusal is a
+// difference.
 //
 // Prints how many cases of each kind came out as in the Rust, then how many cases there were and how
 // many differ. Case 1 is the first of the file.
-mod headroom;
 mod names;
 mod place;
 
@@ -111,8 +111,8 @@ fn on_packet(
     let now = room_of(before, kind, b);
     let mut next = now;
     let p = now.packet;
-    let end = headroom::lent(now.room, buf.len());
-    let got = headroom::call(kind, p, b, bytes, a, &mut buf[0..end], out);
+    let end = replay_packets::lent(now.room, buf.len());
+    let got = replay_packets::call(kind, p, b, bytes, a, &mut buf[0..end], out);
     let after = got.packet;
     next.packet = after;
     next.same = now.same && got.same;

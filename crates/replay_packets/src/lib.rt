@@ -1,4 +1,5 @@
-// Kinds 60 to 6f: the calls on one packet with headroom.
+// The cases of packets with headroom, kinds 60 to 6f: each call made again, and compared with what the
+// Rust answered.
 //
 // The buffer that is lent is as long as the largest end that the packet reaches, and MARGIN more. All
 // of it is MARK when the packet is made. After every case all bytes before the end are compared, by
@@ -17,13 +18,13 @@ use replay::payload;
 ghost use Prim.Native.Nat.{_≤_};
 
 // The packet after a case, and whether the case came out as in the Rust.
-pub(crate) struct Step {
+pub struct Step {
     pub packet: Packet,
     pub same: bool,
 }
 
 // How much of all bytes is lent to a packet whose largest end is room.
-pub(crate) fn lent(room: usize, all: usize) -> usize
+pub fn lent(room: usize, all: usize) -> usize
     ensures { λ r. ⌜ r ≤ all ⌝ }
 {
     fields::least(fields::least(room, 1048576) + answer::MARGIN, all)
@@ -247,7 +248,7 @@ fn changed(kind: u8, p: Packet, b: &[u8], bytes: &[u8], a: &[u8], buf: &mut [u8]
 }
 
 // The case on the packet that is there; a is what follows the payload.
-pub(crate) fn call(
+pub fn call(
     kind: u8,
     p: Packet,
     b: &[u8],
