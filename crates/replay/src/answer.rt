@@ -39,7 +39,7 @@ pub fn untouched(bytes: &[u8]) -> bool {
 }
 
 // Whether MARGIN bytes follow the first n, none of them touched.
-pub fn margin_stays(out: &[u8], n: usize) -> bool {
+fn margin_stays(out: &[u8], n: usize) -> bool {
     let behind = fields::rest(out, n);
     behind.len() == MARGIN && untouched(behind)
 }

@@ -59,7 +59,7 @@ pub fn size(b: &[u8], i: usize) -> usize
     four(b, i) as usize
 }
 
-// Whether one of eight bits is set; weight is its number.
+// Whether the bit of this weight is set.
 pub fn bit(bits: u8, weight: u8) -> bool {
     bits & weight != 0
 }

@@ -4,7 +4,7 @@ ghost use Prim.Native.Nat.{_≤_};
 ghost use lib.ListN.{length};
 
 // How many bytes the payload has.
-pub fn size(b: &[u8]) -> usize
+fn size(b: &[u8]) -> usize
     ensures { λ r. ⌜ r ≤ 4294967295 ⌝ }
 {
     fields::size(b, 2)

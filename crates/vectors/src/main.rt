@@ -328,7 +328,7 @@ fn turn(
     }
 }
 
-// Every case of the file. A case has two bytes at least, and the file has room in large.
+// Every case of the file: no more than half of the bytes that large has, since each has two at least.
 fn all_cases(
     file: &[u8],
     data: &mut [u8],

@@ -1,16 +1,39 @@
 // The names of the kinds.
 use libc::STDOUT_FILENO;
 use replay::fields;
+ghost use Prim.Native.Nat.{_≤_};
+ghost use lib.ListN.{length};
 
 pub(crate) fn say(words: &[u8]) {
     io::write_all(STDOUT_FILENO, words);
 }
 
-// The k-th of names that stand 20 bytes apart, up to its first space.
-fn say_name(names: &[u8], k: u8) {
-    let name = fields::rest(names, 20 * (k as usize));
-    let n = bytes::scan::find(name, 0, name.len(), b' ');
-    say(&name[0..n]);
+// How long the first of the words is.
+fn word_size(words: &[u8]) -> usize
+    ensures { λ r. ⌜ r ≤ length (now (words .entry)) ⌝ }
+{
+    bytes::scan::find(words, 0, words.len(), b' ')
+}
+
+// Where the word behind the one at a place begins.
+fn next(words: &[u8], at: usize) -> usize {
+    let n = word_size(fields::rest(words, at));
+    std::num::wrapping_add_usize(std::num::wrapping_add_usize(at, n), 1)
+}
+
+// Where word k begins, counted from 0.
+fn start(words: &[u8], k: u8) -> usize {
+    let mut at = 0;
+    for _ in 0..k {
+        at = next(words, at);
+    }
+    at
+}
+
+fn say_word(words: &[u8], k: u8) {
+    let word = fields::rest(words, start(words, k));
+    let n = word_size(word);
+    say(&word[0..n]);
 }
 
 // The kind's number in hex, and its name.
@@ -19,32 +42,26 @@ pub(crate) fn say_kind(kind: u8) {
     say(b" ");
     let k = kind % 16;
     match kind / 16 {
-        0 => say_name(
-            b"end                 ip_csum             ip_hdr              tcp_hdr             udp_hdr             icmp_hdr            ",
+        0 => say_word(b"end ip_csum ip_hdr tcp_hdr udp_hdr icmp_hdr", k),
+        1 => say_word(b"fragment tail datagram", k),
+        2 => say_word(
+            b"client_dgram server_dgram client_dgram_every server_dgram_every",
             k,
         ),
-        1 => say_name(
-            b"fragment            tail                datagram            ",
+        3 => say_word(
+            b"IcmpFlow::new echo echo_reply echo_many echo_reply_many",
             k,
         ),
-        2 => say_name(
-            b"client_dgram        server_dgram        client_dgram_every  server_dgram_every  ",
+        4 => say_word(
+            b"TcpFlow::new push_state pop_state client_hole server_hole client_data_segment server_data_segment client_ack server_ack client_hdr server_hdr open client_close server_close client_reset server_reset",
             k,
         ),
-        3 => say_name(
-            b"IcmpFlow::new       echo                echo_reply          echo_many           echo_reply_many     ",
+        5 => say_word(
+            b"client_message server_message client_message_every server_message_every",
             k,
         ),
-        4 => say_name(
-            b"TcpFlow::new        push_state          pop_state           client_hole         server_hole         client_data_segment server_data_segment client_ack          server_ack          client_hdr          server_hdr          open                client_close        server_close        client_reset        server_reset        ",
-            k,
-        ),
-        5 => say_name(
-            b"client_message      server_message      client_msg_every    server_msg_every    ",
-            k,
-        ),
-        _ => say_name(
-            b"Packet::new         push_hdr            push                push_bytes          push_slice          lower_headroom      lower_headroom_for  return_headroom     to_vec              to_vec_from         into_vec_from       hex_dump            bit_time            get                 mutate              as_slice            ",
+        _ => say_word(
+            b"Packet::new push_hdr push push_bytes push_slice lower_headroom lower_headroom_for return_headroom to_vec to_vec_from into_vec_from hex_dump bit_time get mutate as_slice",
             k,
         ),
     }

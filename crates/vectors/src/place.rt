@@ -43,7 +43,7 @@ fn repeated_size(kind: u8, n: usize, a: &[u8]) -> usize
     }
 }
 
-// How many bytes the call writes, after the file.
+// How many bytes the call writes, as the file tells.
 fn written_size(kind: u8, n: usize, a: &[u8]) -> usize
     requires { ⌜ n ≤ 4294967295 ⌝ }
     ensures { λ r. ⌜ r ≤ 8589934592 ⌝ }

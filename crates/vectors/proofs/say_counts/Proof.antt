@@ -1,7 +1,5 @@
 -- There are 256 counts.
-use mathlib.Core.Path.{_≡_}
 use Prim.Native.Nat.{_-_}
-use lib.ListN.{length}
 use borrow.Author.Needs.{needs}
 use Rattle.vectors.proofs.say_counts.Statement.{statement}
 use Rattle.vectors.proofs.say_counts.Tie as tie
