@@ -205,11 +205,11 @@ fn counted(t: Tally, kind: u8, same: bool) -> Tally {
             kind: t.kind,
         };
     }
-    differing(t, cases, kind)
+    differing(t, cases, cases, kind)
 }
 
-// The tally with one more that differs, where there are now that many cases.
-fn differing(t: Tally, cases: u32, kind: u8) -> Tally {
+// The tally of so many cases with one more that differs, which has this number.
+fn differing(t: Tally, cases: u32, number: u32, kind: u8) -> Tally {
     let differ = std::num::wrapping_add_u32(t.differ, 1);
     if t.differ > 0 {
         return Tally {
@@ -222,7 +222,7 @@ fn differing(t: Tally, cases: u32, kind: u8) -> Tally {
     Tally {
         cases,
         differ,
-        first: cases,
+        first: number,
         kind,
     }
 }
@@ -264,12 +264,12 @@ fn text_size(file: &[u8]) -> usize {
     file.len()
 }
 
-// The tally at the end of the file. A wrong end counts as a difference of kind 00.
+// The tally at the end of the file. A wrong end counts as a difference, as if it were one more case.
 fn closed(t: Tally, right: bool) -> Tally {
     if right {
         return t;
     }
-    differing(t, t.cases, 0)
+    differing(t, t.cases, std::num::wrapping_add_u32(t.cases, 1), 0)
 }
 
 // Before the first case.
