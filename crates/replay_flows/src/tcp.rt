@@ -1,13 +1,13 @@
 // Kinds 40 to 53: the calls of one TCP flow.
 use crate::udp;
-use ezpkt::tcp4::Header;
-use ezpkt::tcp4::Sent;
-use ezpkt::tcp4::Seq;
-use ezpkt::tcp4::TcpFlow;
 use replay::answer;
 use replay::answer::Many;
 use replay::fields;
 use replay::payload;
+use tcp4::Header;
+use tcp4::Sent;
+use tcp4::Seq;
+use tcp4::TcpFlow;
 
 // The flow after a case, and whether the case came out as in the Rust.
 pub struct Tcp {
