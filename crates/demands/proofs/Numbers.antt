@@ -25,14 +25,6 @@ use Rattle.assembly.specs.Answers.{replyOf, mapped}
 use Rattle.assembly.specs.Carried.{keyOf, sameKey, broken, fitAnswer, judgeAnswer, headAnswer, pieceOf, pieceAnswer}
 use Rattle.assembly.specs.Calls.{sized, usable, openAnswer, takeAnswer}
 use Rattle.packet.specs.Headroom.{mostEnd, valid}
-use Rattle.packet.specs.Answers.{newOf, pushOf, lowerOf, copyOf}
-use Rattle.packet.specs.declared.Packet.{Packet}
-use Rattle.packet.specs.declared.Made.{Made}
-use Rattle.packet.specs.declared.Made.the-variants as made
-use Rattle.packet.specs.declared.Pushed.{Pushed}
-use Rattle.packet.specs.declared.Pushed.the-variants as pushed
-use Rattle.packet.specs.declared.Copied.{Copied}
-use Rattle.packet.specs.declared.Copied.the-variants as copied
 use Rattle.demands.specs.Numbers.{isIn, Among, number, accepted, Numbered}
 
 -- a test that refuses by x where it holds, or where it does not, and what follows
@@ -121,43 +113,6 @@ take-in C M s l =
     ns : List ℕ
     ns = 11 ∷ 4 ∷ 5 ∷ 6 ∷ 7 ∷ 8 ∷ 9 ∷ 10 ∷ []
 
--- ---- a packet's calls
-
--- where what is chosen by a test has a property either way
-either : {A : Type 0} (P : A → Type 0) (t : Bool) (x y : A) → P x → P y → P (cond t x y)
-either P true x y f g = f
-either P false x y f g = g
-
-MadeIn : List ℕ → Made → Type 0
-MadeIn ns (made.Is p) = Unit {0}
-MadeIn ns (made.Refused n) = isIn n ns ≡ true
-
-PushedIn : List ℕ → Pushed → Type 0
-PushedIn ns (pushed.Is p s) = Unit {0}
-PushedIn ns (pushed.Refused n) = isIn n ns ≡ true
-
-CopiedIn : List ℕ → Copied → Type 0
-CopiedIn ns (copied.Bytes k) = Unit {0}
-CopiedIn ns (copied.Refused n) = isIn n ns ≡ true
-
-new-in : (h n : ℕ) → MadeIn (16 ∷ 3 ∷ []) (newOf h n)
-unfolding MadeIn
-new-in h n = either (MadeIn _) (ltb mostEnd h) _ _ refl (either (MadeIn _) (ltb n h) _ _ refl tt)
-
-push-in : (p : Packet) (k n : ℕ) → PushedIn (16 ∷ 3 ∷ []) (pushOf p k n)
-unfolding PushedIn
-push-in p k n =
-    either (PushedIn _) (valid p n) _ _
-    (either (PushedIn _) (ltb mostEnd (p .end + k)) _ _ refl (either (PushedIn _) (ltb n (p .end + k)) _ _ refl tt)) refl
-
-lower-in : (p : Packet) (k n : ℕ) → PushedIn (16 ∷ []) (lowerOf p k n)
-unfolding PushedIn
-lower-in p k n = either (PushedIn _) (valid p n) _ _ (either (PushedIn _) (ltb (p .headroom) k) _ _ refl tt) refl
-
-copy-in : (ok : Bool) (k room : ℕ) → CopiedIn (16 ∷ 3 ∷ []) (copyOf ok k room)
-unfolding CopiedIn
-copy-in ok k room = either (CopiedIn _) ok _ _ (either (CopiedIn _) (ltb room k) _ _ refl tt) refl
-
 -- ---- all
 
 -- what a contract says of an answer tells its numbers
@@ -166,7 +121,7 @@ told ns a b e h = subst (Among ns) (sym e) h
 
 -- Demand 1: "it builds, or refuses by a number in document 01".
 pub numbered : Numbered
-unfolding openAnswer MadeIn PushedIn CopiedIn
+unfolding openAnswer
 numbered =
     record {
       summing = λ most n c r e. told _ _ _ e (refusing _ (ltb most n) 1 _ refl (accepted c));
@@ -184,8 +139,18 @@ numbered =
           (refusing _ (ltb 65535 (length d)) 1 _ refl
           (refusing _ (ltb 999999 usec) 17 _ refl (refusing _ (ltb (length o) (16 + length d)) 3 _ refl (accepted _))));
       heading = λ o r o′ x. told _ _ _ (x .answer) (refusing _ (ltb (length o) 24) 3 _ refl (accepted 24));
-      making = λ h b b′ n x. subst (MadeIn (16 ∷ 3 ∷ [])) (sym (x .answer)) (new-in h (length b));
-      appending = λ p k d b b′ n x. subst (PushedIn (16 ∷ 3 ∷ [])) (sym (x .answer)) (push-in p k (length b));
-      prepending = λ p d b b′ n x. subst (PushedIn (16 ∷ [])) (sym (x .answer)) (lower-in p (length d) (length b));
-      copying = λ ok k d o o′ n x. subst (CopiedIn (16 ∷ 3 ∷ [])) (sym (x .answer)) (copy-in ok k (length o));
+      making =
+          λ h b r b′ x.
+          told _ _ _ (x .answer) (refusing _ (ltb mostEnd h) 16 _ refl (refusing _ (ltb (length b) h) 3 _ refl (accepted _)));
+      appending =
+          λ p k d b r b′ x.
+          told _ _ _ (x .answer)
+          (unless _ (valid p (length b)) 16 _
+          refl (refusing _ (ltb mostEnd (p .end + k)) 16 _ refl (refusing _ (ltb (length b) (p .end + k)) 3 _ refl (accepted _))));
+      prepending =
+          λ p d b r b′ x.
+          told _ _ _ (x .answer) (unless _ (valid p (length b)) 16 _ refl (refusing _ (ltb (p .headroom) (length d)) 16 _ refl (accepted _)));
+      copying =
+          λ ok k d o r o′ x.
+          told _ _ _ (x .answer) (unless _ ok 16 _ refl (refusing _ (ltb (length o) k) 3 _ refl (accepted _)));
     }

@@ -9,13 +9,7 @@ use Rattle.pkt.specs.Written.{leaves}
 use Rattle.ezpkt.specs.Build.{answerOf, packetOf}
 use Rattle.ezpkt.specs.Icmp4.{withFlow}
 use Rattle.ezpkt.specs.declared.icmp4.IcmpFlow.{IcmpFlow}
-use Rattle.packet.specs.Answers.{afterMade, afterPushed, afterCopied}
-use Rattle.packet.specs.declared.Made.{Made}
-use Rattle.packet.specs.declared.Made.the-variants as made
-use Rattle.packet.specs.declared.Pushed.{Pushed}
-use Rattle.packet.specs.declared.Pushed.the-variants as pushed
-use Rattle.packet.specs.declared.Copied.{Copied}
-use Rattle.packet.specs.declared.Copied.the-variants as copied
+use Rattle.packet.proofs.Answers.{kept}
 use Rattle.assembly.specs.Assembly.{State}
 use Rattle.assembly.specs.View.{view, recordOf}
 use Rattle.assembly.specs.Answers.{replyOf, mapped, payloadAfter, mapAfter}
@@ -41,16 +35,6 @@ payload-left a n d d′ e q = q ∙ ap (λ b. payloadAfter b d) (sym e)
 map-left : (a : Answer State) (n : ℕ) (m m′ : List ℕ) → refused n ≡ a → m′ ≡ mapAfter a m → m′ ≡ m
 map-left a n m m′ e q = q ∙ ap (λ b. mapAfter b m) (sym e)
 
--- and of a packet's buffer
-made-left : (a : Made) (n : ℕ) (x b b′ : List ℕ) → made.Refused n ≡ a → b′ ≡ afterMade a x b → b′ ≡ b
-made-left a n x b b′ e q = q ∙ ap (λ r. afterMade r x b) (sym e)
-
-pushed-left : (a : Pushed) (n : ℕ) (x b b′ : List ℕ) → pushed.Refused n ≡ a → b′ ≡ afterPushed a x b → b′ ≡ b
-pushed-left a n x b b′ e q = q ∙ ap (λ r. afterPushed r x b) (sym e)
-
-copied-left : (a : Copied) (n : ℕ) (x o o′ : List ℕ) → copied.Refused n ≡ a → o′ ≡ afterCopied a x o → o′ ≡ o
-copied-left a n x o o′ e q = q ∙ ap (λ r. afterCopied r x o) (sym e)
-
 -- Demand 1: "A refused call changes no lent byte, no flow and no assembly."
 pub refused-keep : RefusedKeep
 refused-keep =
@@ -71,9 +55,9 @@ refused-keep =
           let a = takeAnswer C M (view r d m) l in
           let e = mapped-refused replyOf a n (x .answer) in
           ap₂ (view r) (payload-left a n d d′ e (x .payload-is)) (map-left a n m m′ e (x .map-is));
-      making = λ h b b′ n x. made-left _ n _ b b′ (x .answer) (x .after);
-      appending = λ p k d b b′ n x. pushed-left _ n _ b b′ (x .answer) (x .after);
-      prepending = λ p d b b′ n x. pushed-left _ n _ b b′ (x .answer) (x .after);
-      copying = λ ok k d o o′ n x. copied-left _ n _ o o′ (x .answer) (x .after);
+      making = λ h b b′ n x. x .after ∙ kept _ n _ b (sym (x .answer));
+      appending = λ p k d b b′ n x. x .after ∙ kept _ n _ b (sym (x .answer));
+      prepending = λ p d b b′ n x. x .after ∙ kept _ n _ b (sym (x .answer));
+      copying = λ ok k d o o′ n x. x .after ∙ kept _ n _ o (sym (x .answer));
       capturing = λ a b o o′ n x. left a n b o o′ (x .answer) (x .after);
     }

@@ -27,9 +27,9 @@ use Rattle.assembly.specs.Answers.{openedSays, takenSays}
 use Rattle.assembly.specs.Calls.{Opens, Takes}
 use Rattle.packet.specs.Answers as packet
 use Rattle.packet.specs.declared.Packet.{Packet}
-use Rattle.packet.specs.declared.Made.the-variants as made
-use Rattle.packet.specs.declared.Pushed.the-variants as pushed
-use Rattle.packet.specs.declared.Copied.the-variants as copied
+use Rattle.packet.specs.declared.Number.{Number}
+use Rattle.packet.specs.declared.Made.{Made}
+use Rattle.packet.specs.declared.Pushed.{Pushed}
 use Rattle.pcap.specs.Answers.{capturedSays, HeaderWritten, RecordWritten}
 use Rattle.pcap.specs.declared.Captured.{Captured}
 
@@ -61,7 +61,7 @@ pub record Numbered : Type 0 where
   pub capturing : (sec usec : ℕ) (d o : List ℕ) (r : Captured) (o′ : List ℕ) → RecordWritten sec usec d o r o′ → Among (1 ∷ 17 ∷ 3 ∷ []) (capturedSays r)
   pub heading : (o : List ℕ) (r : Captured) (o′ : List ℕ) → HeaderWritten o r o′ → Among (3 ∷ []) (capturedSays r)
   -- "Headroom and dump 16, then 3", of the calls that write
-  pub making : (h : ℕ) (b b′ : List ℕ) (n : ℕ) → packet.Opened h b (made.Refused n) b′ → isIn n (16 ∷ 3 ∷ []) ≡ true
-  pub appending : (p : Packet) (k : ℕ) (d b b′ : List ℕ) (n : ℕ) → packet.Appended p k d b (pushed.Refused n) b′ → isIn n (16 ∷ 3 ∷ []) ≡ true
-  pub prepending : (p : Packet) (d b b′ : List ℕ) (n : ℕ) → packet.Prepended p d b (pushed.Refused n) b′ → isIn n (16 ∷ []) ≡ true
-  pub copying : (ok : Bool) (k : ℕ) (d o o′ : List ℕ) (n : ℕ) → packet.CopiedOut ok k d o (copied.Refused n) o′ → isIn n (16 ∷ 3 ∷ []) ≡ true
+  pub making : (h : ℕ) (b : List ℕ) (r : Made) (b′ : List ℕ) → packet.Opened h b r b′ → Among (16 ∷ 3 ∷ []) (packet.madeSays r)
+  pub appending : (p : Packet) (k : ℕ) (d b : List ℕ) (r : Pushed) (b′ : List ℕ) → packet.Appended p k d b r b′ → Among (16 ∷ 3 ∷ []) (packet.pushedSays r)
+  pub prepending : (p : Packet) (d b : List ℕ) (r : Pushed) (b′ : List ℕ) → packet.Prepended p d b r b′ → Among (16 ∷ []) (packet.pushedSays r)
+  pub copying : (ok : Bool) (k : ℕ) (d o : List ℕ) (r : Number) (o′ : List ℕ) → packet.CopiedOut ok k d o r o′ → Among (16 ∷ 3 ∷ []) (packet.numberSays r)

@@ -26,7 +26,7 @@ use Rattle.packet.specs.Answers.{Opened, Appended, Prepended, CopiedOut}
 use Rattle.packet.specs.declared.Packet.{Packet}
 use Rattle.packet.specs.declared.Made.the-variants as made
 use Rattle.packet.specs.declared.Pushed.the-variants as pushed
-use Rattle.packet.specs.declared.Copied.the-variants as copied
+use Rattle.packet.specs.declared.Number.the-variants as number
 use Rattle.pcap.specs.Answers.{Wrote}
 use Rattle.pcap.specs.declared.Captured.the-variants as captured
 
@@ -57,6 +57,6 @@ pub record RefusedKeep : Type 0 where
   -- `lower_headroom_for`: the buffer
   pub prepending : (p : Packet) (d b b′ : List ℕ) (n : ℕ) → Prepended p d b (pushed.Refused n) b′ → b′ ≡ b
   -- `to_vec`, `to_vec_from`, `hex_dump`: the output
-  pub copying : (ok : Bool) (k : ℕ) (d o o′ : List ℕ) (n : ℕ) → CopiedOut ok k d o (copied.Refused n) o′ → o′ ≡ o
+  pub copying : (ok : Bool) (k : ℕ) (d o o′ : List ℕ) (n : ℕ) → CopiedOut ok k d o (number.Refused n) o′ → o′ ≡ o
   -- `write_header`, `write_record`: the output
   pub capturing : (a : Answer ℕ) (b o o′ : List ℕ) (n : ℕ) → Wrote a b o (captured.Refused n) o′ → o′ ≡ o

@@ -1,14 +1,14 @@
 // Reads a packet, and writes its dump, as of a packet behind 16 bytes of headroom.
 use libc::STDIN_FILENO;
 use libc::STDOUT_FILENO;
-use packet::Copied;
 use packet::Made;
+use packet::Number;
 use packet::Packet;
 use packet::Pushed;
 
 fn show(p: Packet, buf: &[u8]) {
     let mut out = [0u8; 20000];
-    let Copied::Bytes(size) = p.hex_dump(buf, &mut out) else {
+    let Number::Is(size) = p.hex_dump(buf, &mut out) else {
         return;
     };
     if size <= 20000 {

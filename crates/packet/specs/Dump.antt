@@ -7,11 +7,9 @@ use lib.Dec.{ltb, leb}
 use Rattle.packet.specs.Headroom.{bytesAt, wholeOf}
 use Rattle.packet.specs.declared.Packet.{Packet}
 
--- a space
 abbrev pub space : ℕ
 space = 0x20
 
--- a newline
 abbrev pub newline : ℕ
 newline = 0x0a
 
@@ -32,7 +30,7 @@ unfoldable pub numeral : ℕ → ℕ → ℕ → List ℕ
 numeral base zero x = []
 numeral base (suc k) x = numeral base k (x / base) ++ (digitOf (x % base) ∷ [])
 
--- how many decimal digits x has: one below 10, and else one more than a tenth of it; most is at least x
+-- how many decimal digits x has: one below 10, and else one more than a tenth of it has; most is at least x
 unfoldable pub digitsIn : ℕ → ℕ → ℕ
 digitsIn zero x = 1
 digitsIn (suc most) x = cond (ltb x 10) 1 (suc (digitsIn most (x / 10)))
@@ -81,6 +79,6 @@ lines (suc k) pos l = line pos (take 16 l) ++ lines k (pos + 16) (drop 16 l)
 unfoldable pub dumpBytes : ℕ → List ℕ → List ℕ
 dumpBytes pos l = decimal (length l) ++ (title ++ lines ((length l + 15) / 16) pos l)
 
--- the dump of a packet in the buffer b, "position counted from the buffer's start, headroom included"
+-- the dump of a packet in the buffer b: "position in 5 hex digits counted from the buffer's start, headroom included"
 abbrev pub dumpOf : Packet → List ℕ → List ℕ
 dumpOf p b = dumpBytes (p .headroom) (bytesAt (wholeOf p) b)

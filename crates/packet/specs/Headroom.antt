@@ -15,15 +15,12 @@ mostEnd = 1048576
 unfoldable pub valid : Packet → ℕ → Bool
 valid p n = leb (p .headroom) (p .end) && (leb (p .end) n && leb (p .end) mostEnd)
 
--- the packet's length
 abbrev pub lenOf : Packet → ℕ
 lenOf p = p .end - p .headroom
 
--- a record from its numbers
 abbrev pub packet : ℕ → ℕ → Packet
 packet h e = record { headroom = h; end = e }
 
--- a part from its numbers
 abbrev pub part : ℕ → ℕ → PktSlice
 part i k = record { off = i; len = k }
 
@@ -43,7 +40,6 @@ bytesAt s b = take (s .len) (drop (s .off) b)
 abbrev pub wholeOf : Packet → PktSlice
 wholeOf p = part (p .headroom) (lenOf p)
 
--- n zero bytes
 abbrev pub zeros : ℕ → List ℕ
 zeros n = replicate n 0
 

@@ -130,7 +130,6 @@ fn put_line(pos: usize, l: &[u8], out: &mut [u8])
     put_right(l, &mut out[55..]);
 }
 
-// The smaller of two numbers.
 fn least(a: usize, b: usize) -> usize
     ensures { λ r. ⌜ r ≡ min a b ⌝ }
 {

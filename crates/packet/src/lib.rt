@@ -5,13 +5,16 @@ mod put;
 use crate::put::fill;
 use crate::put::place;
 use crate::put::place_zeros;
+use pkt::refusal;
 ghost use mathlib.Core.Path.{_≡_};
 ghost use Prim.Native.Nat.{_+_, _≤_};
 ghost use mathlib.Core.Bool.{true};
 ghost use lib.ListN.{length};
+ghost use lib.Dec.{eqb};
+ghost use Rattle.pkt.specs.Answers.{gives};
 ghost use Rattle.packet.specs.Headroom.{valid, lenOf, within, leads, bytesAt, wholeOf, zeros};
 ghost use Rattle.packet.specs.Dump.{dumpOf};
-ghost use Rattle.packet.specs.Answers.{numberOf, emptyOf, bitTimeOf, sliceOf, pushOf, lowerOf, returnOf, Opened, Appended, Prepended, CopiedOut, WholeCopied, PartCopied, Dumped};
+ghost use Rattle.packet.specs.Answers.{numberSays, truthSays, partSays, madeSays, pushedSays, ifValid, bitTimeOf, pushAnswer, lowerAnswer, returnAnswer, Opened, Appended, Prepended, CopiedOut, WholeCopied, PartCopied, Dumped};
 
 // No packet ends behind this place.
 const MOST_END: usize = 1048576;
@@ -29,7 +32,7 @@ pub struct PktSlice {
     pub len: usize,
 }
 
-// A number of the packet, or the refusal's number; so each of the answers below.
+// A number of the packet, or how many bytes were written; or the refusal's number, as in each of the answers below.
 pub enum Number {
     Is(usize),
     Refused(u8),
@@ -37,11 +40,6 @@ pub enum Number {
 
 pub enum Truth {
     Is(bool),
-    Refused(u8),
-}
-
-pub enum Bits {
-    Is(u64),
     Refused(u8),
 }
 
@@ -59,12 +57,6 @@ pub enum Made {
 // The new record, and the part that was added.
 pub enum Pushed {
     Is(Packet, PktSlice),
-    Refused(u8),
-}
-
-// How many bytes were copied out.
-pub enum Copied {
-    Bytes(usize),
     Refused(u8),
 }
 
@@ -118,21 +110,21 @@ fn whole_of(p: Packet) -> PktSlice
 
 // What appending k bytes in a buffer of n bytes is answered, with nothing written.
 fn push_answer(p: Packet, k: usize, n: usize) -> Pushed
-    ensures { λ r. ⌜ r ≡ pushOf p k n ⌝ }
+    ensures { λ r. ⌜ pushedSays r ≡ pushAnswer p k n ⌝ }
 {
     if !is_valid(p, n) {
-        return Pushed::Refused(pkt::refusal::BAD_PART);
+        return Pushed::Refused(refusal::BAD_PART);
     }
     if k > MOST_END - p.end {
-        return Pushed::Refused(pkt::refusal::BAD_PART);
+        return Pushed::Refused(refusal::BAD_PART);
     }
     let end = p.end + k;
     if n < end {
-        return Pushed::Refused(pkt::refusal::NO_ROOM);
+        return Pushed::Refused(refusal::NO_ROOM);
     }
     let whole = Packet {
         headroom: p.headroom,
-        end: end,
+        end,
     };
     let part = PktSlice { off: p.end, len: k };
     Pushed::Is(whole, part)
@@ -140,17 +132,17 @@ fn push_answer(p: Packet, k: usize, n: usize) -> Pushed
 
 // What prepending k bytes is answered, with nothing written.
 fn lower_answer(p: Packet, k: usize, n: usize) -> Pushed
-    ensures { λ r. ⌜ r ≡ lowerOf p k n ⌝ }
+    ensures { λ r. ⌜ pushedSays r ≡ lowerAnswer p k n ⌝ }
 {
     if !is_valid(p, n) {
-        return Pushed::Refused(pkt::refusal::BAD_PART);
+        return Pushed::Refused(refusal::BAD_PART);
     }
     if k > p.headroom {
-        return Pushed::Refused(pkt::refusal::BAD_PART);
+        return Pushed::Refused(refusal::BAD_PART);
     }
     let headroom = p.headroom - k;
     let whole = Packet {
-        headroom: headroom,
+        headroom,
         end: p.end,
     };
     let part = PktSlice {
@@ -166,71 +158,71 @@ impl Packet {
         ensures { λ r. ⌜ Opened headroom (now (buf .entry)) r (now (buf .exit)) ⌝ }
     {
         if headroom > MOST_END {
-            return Made::Refused(pkt::refusal::BAD_PART);
+            return Made::Refused(refusal::BAD_PART);
         }
         if buf.len() < headroom {
-            return Made::Refused(pkt::refusal::NO_ROOM);
+            return Made::Refused(refusal::NO_ROOM);
         }
         fill(buf, headroom, 0);
         Made::Is(Packet {
-            headroom: headroom,
+            headroom,
             end: headroom,
         })
     }
 
     // How many bytes stand before the packet.
     pub fn headroom(self, buf: &[u8]) -> Number
-        ensures { λ r. ⌜ r ≡ numberOf self (length (now (buf .entry))) (self .headroom) ⌝ }
+        ensures { λ r. ⌜ numberSays r ≡ ifValid self (length (now (buf .entry))) (gives (self .headroom)) ⌝ }
     {
         if is_valid(self, buf.len()) {
             Number::Is(self.headroom)
         } else {
-            Number::Refused(pkt::refusal::BAD_PART)
+            Number::Refused(refusal::BAD_PART)
         }
     }
 
     // How many bytes the packet has.
     pub fn len(self, buf: &[u8]) -> Number
-        ensures { λ r. ⌜ r ≡ numberOf self (length (now (buf .entry))) (lenOf self) ⌝ }
+        ensures { λ r. ⌜ numberSays r ≡ ifValid self (length (now (buf .entry))) (gives (lenOf self)) ⌝ }
     {
         if is_valid(self, buf.len()) {
             Number::Is(self.end - self.headroom)
         } else {
-            Number::Refused(pkt::refusal::BAD_PART)
+            Number::Refused(refusal::BAD_PART)
         }
     }
 
     // Whether the packet has no byte.
     pub fn is_empty(self, buf: &[u8]) -> Truth
-        ensures { λ r. ⌜ r ≡ emptyOf self (length (now (buf .entry))) ⌝ }
+        ensures { λ r. ⌜ truthSays r ≡ ifValid self (length (now (buf .entry))) (gives (eqb (lenOf self) 0)) ⌝ }
     {
         if is_valid(self, buf.len()) {
             Truth::Is(self.end - self.headroom == 0)
         } else {
-            Truth::Refused(pkt::refusal::BAD_PART)
+            Truth::Refused(refusal::BAD_PART)
         }
     }
 
     // How many bits the packet takes on the wire, 24 bytes around it counted in.
-    pub fn bit_time(self, buf: &[u8]) -> Bits
-        ensures { λ r. ⌜ r ≡ bitTimeOf self (length (now (buf .entry))) ⌝ }
+    pub fn bit_time(self, buf: &[u8]) -> Number
+        ensures { λ r. ⌜ numberSays r ≡ ifValid self (length (now (buf .entry))) (gives (bitTimeOf self)) ⌝ }
     {
         if is_valid(self, buf.len()) {
-            let len = (self.end - self.headroom) as u64;
-            Bits::Is((len + 24) * 8)
+            let len = self.end - self.headroom;
+            Number::Is((len + 24) * 8)
         } else {
-            Bits::Refused(pkt::refusal::BAD_PART)
+            Number::Refused(refusal::BAD_PART)
         }
     }
 
     // The whole packet as a part.
     pub fn as_slice(self, buf: &[u8]) -> Part
-        ensures { λ r. ⌜ r ≡ sliceOf self (length (now (buf .entry))) ⌝ }
+        ensures { λ r. ⌜ partSays r ≡ ifValid self (length (now (buf .entry))) (gives (wholeOf self)) ⌝ }
     {
         if is_valid(self, buf.len()) {
             Part::Is(whole_of(self))
         } else {
-            Part::Refused(pkt::refusal::BAD_PART)
+            Part::Refused(refusal::BAD_PART)
         }
     }
 
@@ -278,7 +270,7 @@ impl Packet {
 
     // len bytes of the headroom, as they are, made the packet's first.
     pub fn lower_headroom(self, len: usize, buf: &[u8]) -> Pushed
-        ensures { λ r. ⌜ r ≡ lowerOf self len (length (now (buf .entry))) ⌝ }
+        ensures { λ r. ⌜ pushedSays r ≡ lowerAnswer self len (length (now (buf .entry))) ⌝ }
     {
         lower_answer(self, len, buf.len())
     }
@@ -300,13 +292,13 @@ impl Packet {
 
     // The packet's first part made headroom again.
     pub fn return_headroom(self, hdr: PktSlice, buf: &[u8]) -> Made
-        ensures { λ r. ⌜ r ≡ returnOf self hdr (length (now (buf .entry))) ⌝ }
+        ensures { λ r. ⌜ madeSays r ≡ returnAnswer self hdr (length (now (buf .entry))) ⌝ }
     {
         if !is_valid(self, buf.len()) {
-            return Made::Refused(pkt::refusal::BAD_PART);
+            return Made::Refused(refusal::BAD_PART);
         }
         if !does_lead(self, hdr) {
-            return Made::Refused(pkt::refusal::BAD_PART);
+            return Made::Refused(refusal::BAD_PART);
         }
         let p = Packet {
             headroom: self.headroom + hdr.len,
@@ -316,67 +308,67 @@ impl Packet {
     }
 
     // The packet's bytes, and never the headroom's, at the start of out.
-    pub fn to_vec(self, buf: &[u8], out: &mut [u8]) -> Copied
+    pub fn to_vec(self, buf: &[u8], out: &mut [u8]) -> Number
         ensures { λ r. ⌜ WholeCopied self (now (buf .entry)) (now (out .entry)) r (now (out .exit)) ⌝ }
     {
         if !is_valid(self, buf.len()) {
-            return Copied::Refused(pkt::refusal::BAD_PART);
+            return Number::Refused(refusal::BAD_PART);
         }
         copy_part(whole_of(self), buf, out)
     }
 
     // The bytes of a part of the packet at the start of out.
-    pub fn to_vec_from(self, ps: PktSlice, buf: &[u8], out: &mut [u8]) -> Copied
+    pub fn to_vec_from(self, ps: PktSlice, buf: &[u8], out: &mut [u8]) -> Number
         ensures { λ r. ⌜ PartCopied self ps (now (buf .entry)) (now (out .entry)) r (now (out .exit)) ⌝ }
     {
         if !is_valid(self, buf.len()) {
-            return Copied::Refused(pkt::refusal::BAD_PART);
+            return Number::Refused(refusal::BAD_PART);
         }
         if !is_within(self, ps) {
-            return Copied::Refused(pkt::refusal::BAD_PART);
+            return Number::Refused(refusal::BAD_PART);
         }
         copy_part(ps, buf, out)
     }
 
     // How long the hex dump of the packet is.
     pub fn hex_dump_len(self, buf: &[u8]) -> Number
-        ensures { λ r. ⌜ r ≡ numberOf self (length (now (buf .entry))) (length (dumpOf self (now (buf .entry)))) ⌝ }
+        ensures { λ r. ⌜ numberSays r ≡ ifValid self (length (now (buf .entry))) (gives (length (dumpOf self (now (buf .entry))))) ⌝ }
     {
         if is_valid(self, buf.len()) {
             Number::Is(dump::size(self.end - self.headroom))
         } else {
-            Number::Refused(pkt::refusal::BAD_PART)
+            Number::Refused(refusal::BAD_PART)
         }
     }
 
     // The hex dump of the packet at the start of out.
-    pub fn hex_dump(self, buf: &[u8], out: &mut [u8]) -> Copied
+    pub fn hex_dump(self, buf: &[u8], out: &mut [u8]) -> Number
         ensures { λ r. ⌜ Dumped self (now (buf .entry)) (now (out .entry)) r (now (out .exit)) ⌝ }
     {
         if !is_valid(self, buf.len()) {
-            return Copied::Refused(pkt::refusal::BAD_PART);
+            return Number::Refused(refusal::BAD_PART);
         }
         let from = self.headroom;
         let to = self.end;
         let size = dump::size(to - from);
         if out.len() < size {
-            return Copied::Refused(pkt::refusal::NO_ROOM);
+            return Number::Refused(refusal::NO_ROOM);
         }
         dump::put_dump(from, &buf[from..to], out);
-        Copied::Bytes(size)
+        Number::Is(size)
     }
 }
 
 // The bytes of a part of buf at the start of out, where they have room.
-fn copy_part(s: PktSlice, buf: &[u8], out: &mut [u8]) -> Copied
+fn copy_part(s: PktSlice, buf: &[u8], out: &mut [u8]) -> Number
     requires { ⌜ s .off + s .len ≤ length (now buf) ⌝ }
     ensures { λ r. ⌜ CopiedOut true (s .len) (bytesAt s (now (buf .entry))) (now (out .entry)) r (now (out .exit)) ⌝ }
 {
     let from = s.off;
     let to = s.off + s.len;
     if out.len() < s.len {
-        return Copied::Refused(pkt::refusal::NO_ROOM);
+        return Number::Refused(refusal::NO_ROOM);
     }
     bytes::copy(&buf[from..to], out);
-    Copied::Bytes(s.len)
+    Number::Is(s.len)
 }

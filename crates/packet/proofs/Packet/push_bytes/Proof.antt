@@ -1,12 +1,13 @@
 -- The answer is decided first; where it is no refusal the bytes have room.
-use mathlib.Core.Path.{sym, _∙_}
+use mathlib.Core.Path.{sym, ap, _∙_}
 use borrow.Author.Needs.{needs}
-use Rattle.packet.proofs.Answers.{push-fits, pushed-is, pushed-refused}
+use Rattle.packet.specs.Answers.{pushedSays}
+use Rattle.packet.proofs.Answers.{push-fits, carried-out, kept}
 use Rattle.packet.proofs.Packet.push_bytes.Statement.{statement}
 use Rattle.packet.proofs.Packet.push_bytes.Tie as tie
 
 place-requires : tie.Need-place-requires
-place-requires c κs = push-fits _ _ _ _ _ (sym (c .before .before .before .push-answer .ensures) ∙ c .before .enum-told .given .1)
+place-requires c κs = push-fits _ _ _ _ (sym (c .before .before .before .push-answer .ensures) ∙ ap pushedSays (c .before .enum-told .given .1))
 
 returns : tie.Need-returns
 returns c =
@@ -14,11 +15,11 @@ returns c =
     let at-push-answer = at-enum-told .before .before in
     record {
       answer = search needs;
-      after = c .before .before .place .ensures ∙ sym (pushed-is _ _ _ _ _ (sym (at-push-answer .push-answer .ensures) ∙ at-enum-told .enum-told .given .1));
+      after = c .before .before .place .ensures ∙ sym (carried-out _ _ _ _ (sym (at-push-answer .push-answer .ensures) ∙ ap pushedSays (at-enum-told .enum-told .given .1)));
     }
 
 returns-2 : tie.Need-returns-2
-returns-2 c = record { answer = search needs; after = sym (pushed-refused _ _ _ _ (sym (c .before .before .push-answer .ensures) ∙ c .enum-told2 .given .1)) }
+returns-2 c = record { answer = search needs; after = sym (kept _ _ _ _ (sym (c .before .before .push-answer .ensures) ∙ ap pushedSays (c .enum-told2 .given .1))) }
 
 pub push-bytes-spec : {M : Type 1} → statement M
 push-bytes-spec =
