@@ -1,5 +1,5 @@
 -- What is copied into the part from at on is placed there.
-use mathlib.Core.Path.{refl, _∙_}
+use mathlib.Core.Path.{_∙_}
 use native.Mathlib.Omega.{arith}
 use borrow.Author.Needs.{needs}
 use Rattle.pkt.proofs.Written.{copy-written}
