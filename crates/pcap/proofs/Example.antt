@@ -2,8 +2,7 @@
 use mathlib.Core.Path.{_≡_, refl}
 use Prim.Native.Nat.{ℕ}
 use mathlib.Core.List.{List, [], _∷_}
-use Rattle.pcap.specs.Pcap.{fileHeader, recordHeader, recordBytes}
-use Rattle.pcap.specs.Read.{recordsBytes, captureBytes}
+use Rattle.pcap.specs.Pcap.{fileHeader, recordHeader, recordBytes, recordsBytes, captureBytes}
 
 -- the first echo of a flow from 10.0.0.1 to 10.0.0.2
 pub lap : List ℕ

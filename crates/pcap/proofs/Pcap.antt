@@ -7,19 +7,19 @@ use mathlib.Core.List.{List, _++_}
 use lib.ListN.{length, length-append}
 use lib.Seq.{take-at, drop-at}
 use Rattle.pcap.specs.Pcap.{le, fileHeader, recordHeader, recordBytes}
-use Rattle.pcap.specs.Read.{value, number}
+use Rattle.pcap.specs.Read.{leValue, number}
 
 pub le-length : (k x : ℕ) → length (le k x) ≡ k
 le-length zero x = refl
 le-length (suc k) x = ap suc (le-length k (x / 256))
 
 -- One law for every width: the bytes stand for the number that they were made of, where the width holds it.
-pub le-value : (k x : ℕ) → x < 256 ^ k → value (le k x) ≡ x
-unfolding value
+pub le-value : (k x : ℕ) → x < 256 ^ k → leValue (le k x) ≡ x
+unfolding leValue
 le-value zero x h = omega (arith, pow-zero 256)
 le-value (suc k) x h =
     let p = pow-suc 256 k in
-    let e : value (le k (x / 256)) ≡ x / 256 = le-value k (x / 256) (omega arith) in
+    let e : leValue (le k (x / 256)) ≡ x / 256 = le-value k (x / 256) (omega arith) in
     omega arith
 
 -- A number that stands behind p bytes is read back at place p.

@@ -10,8 +10,9 @@ use lib.Dec.{ltb, eqb}
 use borrow.Author.Tests.{le-ltb, ne-eqb}
 use Rattle.pkt.specs.Answers.{Answer}
 use Rattle.pkt.specs.Written.{written, leaves}
-use Rattle.pcap.specs.Pcap.{le, fileHeader, recordHeader, recordBytes}
-use Rattle.pcap.specs.Read.{value, number, Stamped, Recorded, whole, behind, recordAt, recordsIn, readFile, recordsBytes, captureBytes, Taken, AllTaken, wholly, captured, afterRecord, afterRecords, afterCapture}
+use Rattle.pcap.specs.Pcap.{le, fileHeader, recordHeader, recordBytes, Stamped, recordsBytes, captureBytes}
+use Rattle.pcap.specs.Answers.{Taken, AllTaken, afterRecord, afterRecords, afterCapture}
+use Rattle.pcap.specs.Read.{leValue, number, Recorded, whole, recordAt, recordsIn, readFile, wholly, captured}
 use Rattle.pkt.proofs.Written.{written-then, written-length}
 use Rattle.pcap.proofs.Answers.{fitting-taken, record-taken}
 use Rattle.pcap.proofs.Pcap.{number-at, record-header-length, record-length, file-header-length}
@@ -79,7 +80,7 @@ many (r ∷ rs) =
 
 -- A capture, read by the published layout, has the version, snap length and link type that it should, and the times and packets that went in.
 pub capture-read : (rs : List Stamped) → AllTaken rs → readFile (captureBytes rs) ≡ captured rs
-unfolding readFile captured captureBytes fileHeader number value
+unfolding readFile captured captureBytes fileHeader number leValue
 capture-read rs h =
     let t : ltb (length (captureBytes rs)) 24 ≡ false = le-ltb (length (captureBytes rs)) 24 (omega arith) in
     rw (t, records-read rs (length (captureBytes rs)) h (omega (arith, many rs)))

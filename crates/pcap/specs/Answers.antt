@@ -1,13 +1,13 @@
 -- What the calls answer, and what they leave in the lent output.
-use Prim.Native.Nat.{ℕ, _+_}
+use Prim.Native.Nat.{ℕ, _+_, _^_, _≤_, _<_}
 use mathlib.Core.Path.{_≡_}
 use mathlib.Core.Bool.{cond}
-use mathlib.Core.List.{List}
-use lib.ListN.{length}
+use mathlib.Core.List.{List, [], _∷_, _++_}
+use lib.ListN.{length, take, drop}
 use lib.Dec.{ltb}
 use Rattle.pkt.specs.Answers.{Answer, refused, gives}
 use Rattle.pkt.specs.Written.{leaves}
-use Rattle.pcap.specs.Pcap.{fileHeader, recordBytes}
+use Rattle.pcap.specs.Pcap.{fileHeader, recordBytes, Stamped}
 use Rattle.pcap.specs.declared.Captured.{Captured}
 use Rattle.pcap.specs.declared.Captured.the-variants.{Bytes, Refused}
 
@@ -35,3 +35,30 @@ HeaderWritten o r o′ = Wrote (fitting 24 (length o)) fileHeader o r o′
 -- a record of the packet d into the output o
 abbrev pub RecordWritten : ℕ → ℕ → List ℕ → List ℕ → Captured → List ℕ → Type 0
 RecordWritten sec usec d o r o′ = Wrote (recordAnswer (length d) usec (length o)) (recordBytes sec usec d) o r o′
+
+-- ---- a run of calls
+
+-- the packets that a call takes: at most 65,535 bytes, microseconds up to 999,999; seconds are of 32 bits
+pub record Taken (r : Stamped) : Type 0 where
+  pub seconds : r .sec < 2 ^ 32
+  pub micros : r .usec ≤ 999999
+  pub short : length (r .packet) ≤ 65535
+
+-- every one of them
+unfoldable pub AllTaken : List Stamped → Type 0
+AllTaken [] = Unit {0}
+AllTaken (r ∷ rs) = Taken r × AllTaken rs
+
+-- what write_record leaves in the output o
+unfoldable pub afterRecord : Stamped → List ℕ → List ℕ
+afterRecord r o =
+    leaves (recordAnswer (length (r .packet)) (r .usec) (length o)) (recordBytes (r .sec) (r .usec) (r .packet)) o
+
+-- what calls of write_record leave, each with the output from the end of the record before lent on, the first from place n
+unfoldable pub afterRecords : List Stamped → ℕ → List ℕ → List ℕ
+afterRecords [] n o = o
+afterRecords (r ∷ rs) n o = afterRecords rs (n + (16 + length (r .packet))) (take n o ++ afterRecord r (drop n o))
+
+-- what a call of write_header leaves, and behind it calls of write_record
+unfoldable pub afterCapture : List Stamped → List ℕ → List ℕ
+afterCapture rs o = afterRecords rs 24 (leaves (fitting 24 (length o)) fileHeader o)

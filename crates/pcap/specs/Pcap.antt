@@ -19,3 +19,18 @@ recordHeader sec usec n = le 4 sec ++ (le 4 usec ++ (le 4 n ++ le 4 n))
 -- A record: the packet's header, and behind it the packet
 unfoldable pub recordBytes : ℕ → ℕ → List ℕ → List ℕ
 recordBytes sec usec d = recordHeader sec usec (length d) ++ d
+
+-- a packet with its time
+pub record Stamped : Type 0 where
+  pub sec : ℕ
+  pub usec : ℕ
+  pub packet : List ℕ
+
+-- records one behind the other
+unfoldable pub recordsBytes : List Stamped → List ℕ
+recordsBytes [] = []
+recordsBytes (r ∷ rs) = recordBytes (r .sec) (r .usec) (r .packet) ++ recordsBytes rs
+
+-- a whole capture: the file header, and the records behind it
+unfoldable pub captureBytes : List Stamped → List ℕ
+captureBytes rs = fileHeader ++ recordsBytes rs

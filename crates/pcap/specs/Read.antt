@@ -1,42 +1,34 @@
--- Reading a capture file by the published layout.
-use Prim.Native.Nat.{ℕ, zero, suc, _+_, _*_, _^_, _≤_, _<_}
+-- Reading a capture file: libpcap's pcap-savefile page, little-endian.
+use Prim.Native.Nat.{ℕ, zero, suc, _+_, _*_}
 use mathlib.Core.Bool.{cond}
-use mathlib.Core.List.{List, [], _∷_, _++_, map}
+use mathlib.Core.List.{List, [], _∷_, map}
 use lib.ListN.{length, take, drop}
 use lib.Dec.{ltb, eqb}
-use Rattle.pcap.specs.Pcap.{fileHeader, recordBytes}
-use Rattle.pkt.specs.Written.{leaves}
-use Rattle.pcap.specs.Answers.{fitting, recordAnswer}
+use Rattle.pcap.specs.Pcap.{Stamped}
 
 -- the number that bytes stand for, the first the lowest
-unfoldable pub value : List ℕ → ℕ
-value [] = 0
-value (b ∷ bs) = b + 256 * value bs
+unfoldable pub leValue : List ℕ → ℕ
+leValue [] = 0
+leValue (b ∷ bs) = b + 256 * leValue bs
 
 -- the number in the k bytes from place i on
 unfoldable pub number : ℕ → ℕ → List ℕ → ℕ
-number k i l = value (take k (drop i l))
-
--- a packet with its time
-pub record Stamped : Type 0 where
-  pub sec : ℕ
-  pub usec : ℕ
-  pub packet : List ℕ
+number k i l = leValue (take k (drop i l))
 
 -- a record as it is read: the packet with its time, and the length that it had on the wire
 pub record Recorded : Type 0 where
   pub stamped : Stamped
   pub original : ℕ
 
--- the records of a file, or none where its bytes end within one
+-- the records of some bytes, or the answer that these are not records one behind the other
 pub data Records : Type 0 where
   whole : List Recorded → Records
   broken : Records
 
--- a record in front of others
-abbrev pub behind : Recorded → Records → Records
-behind r (whole rs) = whole (r ∷ rs)
-behind r broken = broken
+-- a record, and behind it others
+abbrev pub inFront : Recorded → Records → Records
+inFront r (whole rs) = whole (r ∷ rs)
+inFront r broken = broken
 
 -- the record that begins where l does
 unfoldable pub recordAt : List ℕ → Recorded
@@ -46,14 +38,14 @@ recordAt l =
       original = number 4 12 l;
     }
 
--- the records of l, each at the end of the one before; there are fewer than most of them
+-- the records of l, each at the end of the one before: broken where l ends within one, or where there are most of them or more
 unfoldable pub recordsIn : ℕ → List ℕ → Records
 recordsIn zero l = broken
 recordsIn (suc most) l =
     cond (eqb (length l) 0) (whole [])
     (cond (ltb (length l) 16) broken
     (cond (ltb (length l) (16 + number 4 8 l)) broken
-    (behind (recordAt l) (recordsIn most (drop (16 + number 4 8 l) l)))))
+    (inFront (recordAt l) (recordsIn most (drop (16 + number 4 8 l) l)))))
 
 -- a file as it is read: the fields of its header, and its records
 pub record File : Type 0 where
@@ -65,7 +57,8 @@ pub record File : Type 0 where
   pub link : ℕ
   pub records : Records
 
--- a file header has 24 bytes
+-- The file header's fields at their places, and the records in what follows its 24 bytes: broken where l is shorter than that.
+-- A record has 16 bytes or more, so there are fewer of them than bytes in l.
 unfoldable pub readFile : List ℕ → File
 readFile l =
     record {
@@ -77,26 +70,6 @@ readFile l =
       link = number 4 20 l;
       records = cond (ltb (length l) 24) broken (recordsIn (length l) (drop 24 l));
     }
-
--- records one behind the other
-unfoldable pub recordsBytes : List Stamped → List ℕ
-recordsBytes [] = []
-recordsBytes (r ∷ rs) = recordBytes (r .sec) (r .usec) (r .packet) ++ recordsBytes rs
-
--- a whole capture: the file header, and the records behind it
-unfoldable pub captureBytes : List Stamped → List ℕ
-captureBytes rs = fileHeader ++ recordsBytes rs
-
--- the packets that a call takes: at most 65,535 bytes, microseconds up to 999,999; seconds are of 32 bits
-pub record Taken (r : Stamped) : Type 0 where
-  pub seconds : r .sec < 2 ^ 32
-  pub micros : r .usec ≤ 999999
-  pub short : length (r .packet) ≤ 65535
-
--- every one of them
-unfoldable pub AllTaken : List Stamped → Type 0
-AllTaken [] = Unit {0}
-AllTaken (r ∷ rs) = Taken r × AllTaken rs
 
 -- a packet that was captured whole, as it is read
 unfoldable pub wholly : Stamped → Recorded
@@ -114,17 +87,3 @@ captured rs =
       link = 101;
       records = whole (map wholly rs);
     }
-
--- what write_record leaves in the output o
-unfoldable pub afterRecord : Stamped → List ℕ → List ℕ
-afterRecord r o =
-    leaves (recordAnswer (length (r .packet)) (r .usec) (length o)) (recordBytes (r .sec) (r .usec) (r .packet)) o
-
--- what calls of write_record leave, each with the output from the end of the record before lent on, the first from place n
-unfoldable pub afterRecords : List Stamped → ℕ → List ℕ → List ℕ
-afterRecords [] n o = o
-afterRecords (r ∷ rs) n o = afterRecords rs (n + (16 + length (r .packet))) (take n o ++ afterRecord r (drop n o))
-
--- what a call of write_header leaves, and behind it calls of write_record
-unfoldable pub afterCapture : List Stamped → List ℕ → List ℕ
-afterCapture rs o = afterRecords rs 24 (leaves (fitting 24 (length o)) fileHeader o)

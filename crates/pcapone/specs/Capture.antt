@@ -1,14 +1,12 @@
 -- What the program writes: document 01, 'Hex dump and capture'.
 use Prim.Native.Nat.{ℕ, _+_}
-use mathlib.Core.Path.{_≡_}
 use mathlib.Core.Bool.{cond}
 use mathlib.Core.List.{List, [], _∷_}
 use lib.ListN.{length}
 use lib.Dec.{ltb}
-use Rattle.pkt.specs.Answers.{Answer, refused, gives}
-use Rattle.pkt.specs.Written.{leaves}
-use Rattle.pcap.specs.Answers.{capturedSays}
-use Rattle.pcap.specs.Read.{captureBytes}
+use Rattle.pkt.specs.Answers.{Answer, refused}
+use Rattle.pcap.specs.Answers.{fitting, Wrote}
+use Rattle.pcap.specs.Pcap.{captureBytes}
 use Rattle.pcap.specs.declared.Captured.{Captured}
 use Rattle.ezpkt.specs.Build.{packetOf}
 use Rattle.ezpkt.specs.Icmp4.{newFlow, pingOf}
@@ -21,11 +19,10 @@ firstEcho p = packetOf (pingOf (newFlow 0x0a000001 0x0a000002)) p
 unfoldable pub fileOf : List ℕ → List ℕ
 fileOf d = captureBytes (record { sec = 0; usec = 0; packet = d } ∷ [])
 
--- "at most 4,096 bytes of standard input (more: it writes nothing)"
+-- Document 01, "building 1, 2, 3": the answer for a payload of n bytes and an output of room bytes. An echo carries at most 65,507 bytes.
 abbrev pub captureAnswer : ℕ → ℕ → Answer ℕ
-captureAnswer n room = cond (ltb 4096 n) (refused 1) (cond (ltb room (68 + n)) (refused 3) (gives (68 + n)))
+captureAnswer n room = cond (ltb 65507 n) (refused 1) (fitting (68 + n) room)
 
 -- The whole promise, for a payload p and an output o.
-pub record EchoCaptured (p o : List ℕ) (r : Captured) (o′ : List ℕ) : Type 0 where
-  pub answer : capturedSays r ≡ captureAnswer (length p) (length o)
-  pub after : o′ ≡ leaves (captureAnswer (length p) (length o)) (fileOf (firstEcho p)) o
+abbrev pub EchoCaptured : List ℕ → List ℕ → Captured → List ℕ → Type 0
+EchoCaptured p o r o′ = Wrote (captureAnswer (length p) (length o)) (fileOf (firstEcho p)) o r o′

@@ -26,13 +26,13 @@ pub fn echo_capture(payload: &[u8], out: &mut [u8]) -> Captured
     ensures { λ r. ⌜ EchoCaptured (now (payload .entry)) (now (out .entry)) r (now (out .exit)) ⌝ }
 {
     let n = payload.len();
-    if n > 4096 {
+    if n > 65507 {
         return Captured::Refused(refusal::TOO_LONG);
     }
     if out.len() < 68 + n {
         return Captured::Refused(refusal::NO_ROOM);
     }
-    let mut packet = [0u8; 4124];
+    let mut packet = [0u8; 65535];
     IcmpFlow::new(CLIENT, SERVER).echo(payload, &mut packet);
     let end = 28 + n;
     put_file(&packet[0..end], out);

@@ -41,9 +41,9 @@ returns-3 c =
     let u = le-ltb _ _ (at-if2 .if2 .left) in
     let s : 28 + n - 0 ≡ 28 + n = omega arith in
     let e = rw (at-new .new .ensures) at (at-echo .echo .ensures .after) in
-    let fits : answerOf (pingOf (newFlow 0x0a000001 0x0a000002)) n 4124 ≡ gives (28 + n) =
-    simp (le-ltb 65507 n (omega arith), le-ltb 4124 (28 + n) (omega arith)) in
-    let front = ap (λ (k : ℕ). take k (at-echo .echo .last .1 .1 .0)) s ∙ packet-front (pingOf (newFlow 0x0a000001 0x0a000002)) p (replicate 4124 0) _ (28 + n) fits e in
+    let fits : answerOf (pingOf (newFlow 0x0a000001 0x0a000002)) n 65535 ≡ gives (28 + n) =
+    simp (le-ltb 65507 n (omega arith), le-ltb 65535 (28 + n) (omega arith)) in
+    let front = ap (λ (k : ℕ). take k (at-echo .echo .last .1 .1 .0)) s ∙ packet-front (pingOf (newFlow 0x0a000001 0x0a000002)) p (replicate 65535 0) _ (28 + n) fits e in
     record { answer = simp (t, u); after = simp (t, u) (at-put .put-file .ensures ∙ ap (λ (l : List ℕ). written (fileOf l) o) front) }
 
 pub echo-capture-spec : {M : Type 1} → statement M

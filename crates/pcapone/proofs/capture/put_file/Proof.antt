@@ -1,11 +1,10 @@
 -- The header and the record have room, and the record stands behind the header.
 use Rattle.pcapone.specs.Capture.{fileOf}
-use Rattle.pcap.specs.Read.{captureBytes, recordsBytes}
 use Rattle.pcap.proofs.Pcap.{file-header-length}
 use Rattle.pkt.proofs.Parts.{mid-length}
 use borrow.Rule.Slice.PartMut.{midOf}
 use Rattle.pcap.proofs.Answers.{fitting-taken, record-taken}
-use Rattle.pcap.specs.Pcap.{fileHeader, recordBytes}
+use Rattle.pcap.specs.Pcap.{fileHeader, recordBytes, captureBytes, recordsBytes}
 use Rattle.pkt.proofs.Written.{written-behind}
 use Rattle.pkt.specs.Written.{written, leaves}
 use Rattle.pkt.specs.Answers.{Answer}
