@@ -1,5 +1,5 @@
 -- The sequence law: after any calls a side's number is its start and what was consumed since then, modulo 2^32.
-use mathlib.Core.Path.{_≡_, refl, sym, ap, _∙_}
+use mathlib.Core.Path.{_≡_, refl, ap}
 use mathlib.Core.Bool.{Bool, true, false, cond}
 use mathlib.Core.List.{List, [], _∷_}
 use Prim.Native.Nat.{ℕ, _+_, _%_}
@@ -7,8 +7,8 @@ use native.Mathlib.Omega.{arith}
 use lib.ListN.{length}
 use lib.Dec.{ltb}
 use Rattle.pkt.specs.Answers.{Answer, refused, gives}
-use Rattle.tcp4.specs.Tcp4.{Emit, Gone, consumed, advance, after, afterAll, anyLong, sizeAll, endsFrom, sendAnswer, popped, sentSays, Sends}
-use Rattle.tcp4.specs.Sequence.{Call, sends, hole, header, state, called, calledAll, seqOf, Count, mine, sentBy, sideOf, counted, countBy, countedAll, begun, flowBy}
+use Rattle.tcp4.specs.Tcp4.{Emit, Gone, consumed, advance, after, afterAll, anyLong, sizeAll, endsFrom, popped, sentSays, Sends}
+use Rattle.tcp4.specs.Sequence.{Call, sends, hole, header, push, pop, called, calledAll, seqOf, Count, mine, sentBy, restart, sideOf, counted, countBy, countedAll, begun, flowBy, Counts}
 use Rattle.tcp4.specs.declared.TcpFlow.{TcpFlow}
 use Rattle.tcp4.specs.declared.Side.{Side}
 use Rattle.tcp4.specs.declared.Side.the-variants.{Client, Server}
@@ -16,12 +16,12 @@ use Rattle.tcp4.specs.declared.Seq.{Seq}
 use Rattle.tcp4.specs.declared.Seq.the-variants.{Is, Nothing}
 use Rattle.tcp4.specs.declared.Sent.{Sent}
 
--- the number that a count comes to
-abbrev pub Counts : ℕ → Count → Type 0
-Counts n k = n % 4294967296 ≡ (k .start + k .since) % 4294967296
-
 moved : (x n a b : ℕ) → x % 4294967296 ≡ (a + b) % 4294967296 → (x + n) % 4294967296 % 4294967296 ≡ (a + (b + n)) % 4294967296
 moved x n a b h = omega arith
+
+-- nothing is consumed since a start
+begins : (n : ℕ) → n % 4294967296 ≡ (n + 0) % 4294967296
+begins n = omega arith
 
 stayed : (x a b : ℕ) → x % 4294967296 ≡ (a + b) % 4294967296 → x % 4294967296 ≡ (a + (b + 0)) % 4294967296
 stayed x a b h = omega arith
@@ -45,6 +45,14 @@ emitted w (e ∷ es) f k h =
     let s : k .since + n + sentBy w es ≡ k .since + (n + sentBy w es) = omega arith in
     rw s at rest
 
+-- a side counts from the number that it is set to, or goes on
+set : (w : Side) (c s : Seq) (f : TcpFlow) (k : Count) → Counts (seqOf w f) k
+    → Counts (seqOf w (popped f c s)) (restart (sideOf w c s) k)
+set Client (Is n) s f k h = begins n
+set Client Nothing s f k h = h
+set Server c (Is n) f k h = begins n
+set Server c Nothing f k h = h
+
 -- a call
 counts : (w : Side) (c : Call) (f : TcpFlow) (k : Count) → Counts (seqOf w f) k → Counts (seqOf w (called c f)) (counted w c f k)
 counts w (sends es room) f k h = go (anyLong es) (ltb room (sizeAll es))
@@ -59,11 +67,9 @@ counts w (sends es room) f k h = go (anyLong es) (ltb room (sizeAll es))
     go false true = h
     go false false = emitted w es f k h
 counts w (hole s n) f k h = advanced w s n f k h
-counts w (header s n) f k h = advanced w s n f k h
-counts Client (state (Is n) s) f k h = let e : n + 0 ≡ n = omega arith in ap (λ (x : ℕ). x % 4294967296) (sym e)
-counts Client (state Nothing s) f k h = h
-counts Server (state c (Is n)) f k h = let e : n + 0 ≡ n = omega arith in ap (λ (x : ℕ). x % 4294967296) (sym e)
-counts Server (state c Nothing) f k h = h
+counts w (header s dlen csum) f k h = advanced w s dlen f k h
+counts w (push c s) f k h = set w c s f k h
+counts w (pop c s) f k h = set w c s f k h
 
 countsAll : (w : Side) (cs : List Call) (f : TcpFlow) (k : Count) → Counts (seqOf w f) k → Counts (seqOf w (calledAll cs f)) (countedAll w cs f k)
 countsAll w [] f k h = h
@@ -72,9 +78,7 @@ countsAll w (c ∷ cs) f k h = countsAll w cs (called c f) (counted w c f k) (co
 -- "After accepted calls a side's number equals its start plus its payload bytes, SYNs, FINs, holes and the `dlen` of its header-only
 -- calls since then." Refused calls change nothing.
 pub sequence-law : (w : Side) (cs : List Call) (f : TcpFlow) → Counts (seqOf w (calledAll cs f)) (countedAll w cs f (begun w f))
-sequence-law w cs f =
-    let e : seqOf w f + 0 ≡ seqOf w f = omega arith in
-    countsAll w cs f (begun w f) (ap (λ (x : ℕ). x % 4294967296) (sym e))
+sequence-law w cs f = countsAll w cs f (begun w f) (begins (seqOf w f))
 
 -- The flow after a call that keeps its promise is the call's.
 pub sent-flow : (f : TcpFlow) (es : List Emit) (o : List ℕ) (r : Sent) (o′ : List ℕ) → Sends f es o r o′

@@ -1,22 +1,23 @@
 -- The sequence numbers of a flow over many calls: document 01, 'Sequence state'.
-use Prim.Native.Nat.{ℕ, _+_}
-use mathlib.Core.Bool.{cond}
+use Prim.Native.Nat.{ℕ, _+_, _%_}
+use mathlib.Core.Path.{_≡_}
 use mathlib.Core.List.{List, [], _∷_}
 use lib.ListN.{length}
 use Rattle.pkt.specs.Answers.{Answer, refused, gives}
-use Rattle.tcp4.specs.Tcp4.{Emit, Gone, consumed, advance, sendAnswer, popped}
+use Rattle.tcp4.specs.Tcp4.{Emit, Gone, consumed, advance, sendAnswer, headed, pushed, popped}
 use Rattle.tcp4.specs.declared.TcpFlow.{TcpFlow}
 use Rattle.tcp4.specs.declared.Side.{Side}
 use Rattle.tcp4.specs.declared.Side.the-variants.{Client, Server}
 use Rattle.tcp4.specs.declared.Seq.{Seq}
 use Rattle.tcp4.specs.declared.Seq.the-variants.{Is, Nothing}
 
--- A call on a flow: packets into a buffer with so much room, a hole, a header alone with its dlen, a state pushed or popped.
+-- A call on a flow: packets into a buffer with so much room, a hole, a header alone with its dlen and checksum, a state pushed, a state popped.
 pub data Call : Type 0 where
   sends : List Emit → ℕ → Call
   hole : Side → ℕ → Call
-  header : Side → ℕ → Call
-  state : Seq → Seq → Call
+  header : Side → ℕ → ℕ → Call
+  push : Seq → Seq → Call
+  pop : Seq → Seq → Call
 
 -- the flow that an answer gives, or on a refusal the flow before
 abbrev pub flowBy : Answer Gone → TcpFlow → TcpFlow
@@ -27,8 +28,9 @@ flowBy (refused n) f = f
 abbrev pub called : Call → TcpFlow → TcpFlow
 called (sends es room) f = flowBy (sendAnswer f es room) f
 called (hole s n) f = advance s n f
-called (header s n) f = advance s n f
-called (state c s) f = popped f c s
+called (header s dlen csum) f = headed f s dlen csum .flow
+called (push c s) f = pushed f c s .flow
+called (pop c s) f = popped f c s
 
 abbrev pub calledAll : List Call → TcpFlow → TcpFlow
 calledAll [] f = f
@@ -77,8 +79,9 @@ sideOf Server c s = s
 abbrev pub counted : Side → Call → TcpFlow → Count → Count
 counted w (sends es room) f k = countBy (sendAnswer f es room) (sentBy w es) k
 counted w (hole s n) f k = more (mine w s n) k
-counted w (header s n) f k = more (mine w s n) k
-counted w (state c s) f k = restart (sideOf w c s) k
+counted w (header s dlen csum) f k = more (mine w s dlen) k
+counted w (push c s) f k = restart (sideOf w c s) k
+counted w (pop c s) f k = restart (sideOf w c s) k
 
 abbrev pub countedAll : Side → List Call → TcpFlow → Count → Count
 countedAll w [] f k = k
@@ -87,3 +90,7 @@ countedAll w (c ∷ cs) f k = countedAll w cs (called c f) (counted w c f k)
 -- the count of a new flow, or of one whose number was just set
 abbrev pub begun : Side → TcpFlow → Count
 begun w f = record { start = seqOf w f; since = 0 }
+
+-- a number is what a count comes to, modulo 2^32
+abbrev pub Counts : ℕ → Count → Type 0
+Counts n k = n % 4294967296 ≡ (k .start + k .since) % 4294967296

@@ -17,11 +17,11 @@ ghost use Rattle.ezpkt.specs.Build.{tcpPacket};
 ghost use Rattle.tcp4.specs.Tcp4.{newFlow, consumed, ackOf, segOf, segmentOf, advance, after, other, emit, opening, closing, messageOf, Sends, setTo, oldOf, pushed, popped, headed};
 ghost use Rattle.tcp4.specs.declared.Side.the-variants.{Client, Server};
 
-const SYN_ACK: u8 = 0x12;
+const SYN_ACK: u8 = ipv4::TCP_SYN + ipv4::TCP_ACK;
 
-const FIN_ACK: u8 = 0x11;
+const FIN_ACK: u8 = ipv4::TCP_FIN + ipv4::TCP_ACK;
 
-const PSH_ACK: u8 = 0x18;
+const PSH_ACK: u8 = ipv4::TCP_PSH + ipv4::TCP_ACK;
 
 pub enum Side {
     Client,
@@ -74,7 +74,7 @@ fn other_side(side: Side) -> Side
     }
 }
 
-// What a segment with these flags and n payload bytes consumes: SYN and FIN count one each.
+// What a segment with these flags and n payload bytes consumes: SYN (0x02) and FIN (0x01) count one each.
 fn seq_consumed(flags: u8, n: u32) -> u32
     requires { ⌜ n ≤ 65495 ⌝ }
     ensures { λ r. ⌜ r ≡ consumed flags n ⌝ }
@@ -82,7 +82,7 @@ fn seq_consumed(flags: u8, n: u32) -> u32
     n + (flags / 2 % 2) as u32 + (flags % 2) as u32
 }
 
-// The acknowledgment number: 0 where the flags have no ACK.
+// The acknowledgment number: 0 where the flags have no ACK (0x10).
 fn acked(flags: u8, number: u32) -> u32
     ensures { λ r. ⌜ r ≡ ackOf flags number ⌝ }
 {
