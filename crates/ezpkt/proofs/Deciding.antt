@@ -53,6 +53,13 @@ gives-size (Udp u) n room k e = sized-fits 65507 28 n room k e .is-size
 gives-size (Echo x) n room k e = sized-fits 65507 28 n room k e .is-size
 gives-size (Piece q) n room k e = piece-fits q n room k e .1 .is-size
 
+-- A length that is given fits the 16-bit field.
+pub gives-short : (q : Request) (n room k : ℕ) → answerOf q n room ≡ gives k → k ≤ 65535
+gives-short (Tcp t) n room k e = let f = sized-fits 65495 40 n room k e in omega (arith, f .few, f .is-size)
+gives-short (Udp u) n room k e = let f = sized-fits 65507 28 n room k e in omega (arith, f .few, f .is-size)
+gives-short (Echo x) n room k e = let f = sized-fits 65507 28 n room k e in omega (arith, f .few, f .is-size)
+gives-short (Piece q) n room k e = let f = piece-fits q n room k e .1 in omega (arith, f .few, f .is-size)
+
 -- `tail` hands on the length modulo 65,536: a payload of more bytes is refused whatever it asks for.
 pub tail-answered : (t : Template) (off : ℕ) (p o : List ℕ) (r : Built) (o′ : List ℕ)
     → Answered (fragmentOf t off (length p % 65536)) p o r o′ → Answered (tailOf t off (length p)) p o r o′

@@ -1,3 +1,4 @@
+pub mod Datagram
 pub mod Deciding
 pub mod Only
 pub mod Sizes

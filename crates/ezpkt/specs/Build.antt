@@ -7,7 +7,7 @@ use mathlib.Core.List.{List, _++_}
 use lib.ListN.{length, take, drop}
 use lib.Dec.{ltb, eqb}
 use Rattle.pkt.specs.Answers.{Answer, refused, gives}
-use Rattle.pkt.specs.Rfc791.{ipHeader}
+use Rattle.pkt.specs.Rfc791.{ipHeader, ipDefault}
 use Rattle.pkt.specs.Rfc768.{udpHeader, udpChecksum}
 use Rattle.pkt.specs.Rfc9293.{tcpHeader, tcpChecksum}
 use Rattle.pkt.specs.Rfc792.{echoHeader, echoChecksum, icmpNew, echoNew}
@@ -24,9 +24,20 @@ use Rattle.ezpkt.specs.declared.build.Request.{Request}
 use Rattle.ezpkt.specs.declared.build.Request.the-variants.{Tcp, Udp, Echo, Piece}
 use Rattle.ezpkt.specs.declared.build.Built.{Built}
 
--- The IPv4 header of a packet with no template: TOS 0, id 0, TTL 64. Its protocol, total length, flags and offset, addresses.
+-- The IPv4 header of a packet with no template: TOS, id and TTL are the defaults; protocol p, total length, flags and offset, source and
+-- destination are given.
 abbrev pub flowIp : ℕ → ℕ → ℕ → ℕ → ℕ → «ip_hdr»
-flowIp p size frag s d = record { tos = 0; «tot_len» = size; id = 0; «frag_off» = frag; ttl = 64; protocol = p; saddr = s; daddr = d }
+flowIp p size frag s d =
+    record {
+      tos = ipDefault .tos;
+      «tot_len» = size;
+      id = ipDefault .id;
+      «frag_off» = frag;
+      ttl = ipDefault .ttl;
+      protocol = p;
+      saddr = s;
+      daddr = d;
+    }
 
 -- ---- a TCP segment
 
@@ -72,6 +83,7 @@ startOf q n = min (8 * q .off) n
 abbrev pub endOf : IpPiece → ℕ → ℕ
 endOf q n = min (8 * q .off + 8 * q .len) n
 
+-- the bit n where b holds, and no bit where it does not
 abbrev pub bit : Bool → ℕ → ℕ
 bit b n = cond b n 0
 
@@ -92,6 +104,10 @@ pieceIp q size more =
       daddr = q .template .daddr;
     }
 
+-- the length of a piece's packet, for a payload of n bytes
+abbrev pub pieceSize : IpPiece → ℕ → ℕ
+pieceSize q n = 20 + (endOf q n - startOf q n)
+
 -- the bytes from start up to, not including, end
 abbrev pub between : ℕ → ℕ → List ℕ → List ℕ
 between start end p = take (end - start) (drop start p)
@@ -99,7 +115,7 @@ between start end p = take (end - start) (drop start p)
 -- "MF is set exactly if that end is not n"
 unfoldable pub piecePacket : IpPiece → List ℕ → List ℕ
 piecePacket q p =
-    ipHeader (pieceIp q (20 + (endOf q (length p) - startOf q (length p))) (not (eqb (endOf q (length p)) (length p))))
+    ipHeader (pieceIp q (pieceSize q (length p)) (not (eqb (endOf q (length p)) (length p))))
     ++ between (startOf q (length p)) (endOf q (length p)) p
 
 -- ---- all four
@@ -116,7 +132,7 @@ abbrev pub sizeOf : Request → ℕ → ℕ
 sizeOf (Tcp t) n = 40 + n
 sizeOf (Udp u) n = 28 + n
 sizeOf (Echo e) n = 28 + n
-sizeOf (Piece q) n = 20 + (endOf q n - startOf q n)
+sizeOf (Piece q) n = pieceSize q n
 
 -- Refusals 1 and 3: n bytes behind head bytes, at most `most` of them, and room for so many.
 abbrev pub sizedAnswer : ℕ → ℕ → ℕ → ℕ → Answer ℕ
@@ -126,7 +142,7 @@ sizedAnswer most head n room = cond (ltb most n) (refused 1) (cond (ltb room (he
 abbrev pub pieceAnswer : IpPiece → ℕ → ℕ → Answer ℕ
 pieceAnswer q n room =
     cond (ltb 65515 n) (refused 1)
-    (cond (ltb 8191 (q .off)) (refused 2) (cond (ltb room (sizeOf (Piece q) n)) (refused 3) (gives (sizeOf (Piece q) n))))
+    (cond (ltb 8191 (q .off)) (refused 2) (cond (ltb room (pieceSize q n)) (refused 3) (gives (pieceSize q n))))
 
 -- the answer, for a payload of n bytes and room for so many
 abbrev pub answerOf : Request → ℕ → ℕ → Answer ℕ

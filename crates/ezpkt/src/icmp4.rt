@@ -4,7 +4,6 @@ use crate::build::Built;
 use crate::build::IcmpEcho;
 use crate::build::Request;
 ghost use mathlib.Core.Path.{_≡_};
-ghost use Prim.Native.Nat.{_+_, _%_};
 ghost use Rattle.ezpkt.specs.Answers.{builtSays};
 ghost use Rattle.ezpkt.specs.Icmp4.{newFlow, sentSays, withFlow, Echoed, pingOf, pongOf, pinged, ponged};
 

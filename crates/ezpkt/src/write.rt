@@ -19,8 +19,8 @@ ghost use Rattle.pkt.specs.Written.{written};
 ghost use Rattle.pkt.specs.Answers.{gives};
 ghost use Rattle.pkt.specs.Rfc791.{ipHeader};
 ghost use Rattle.ezpkt.specs.Answers.{summed};
-ghost use Rattle.ezpkt.specs.Build.{flowIp, tcpHdr, udpHdr, udpField, echoType, startOf, endOf, pieceFlags, pieceIp, bit, tcpPacket, udpPacket, echoPacket, piecePacket, packetOf, answerOf, sizeOf};
-ghost use Rattle.ezpkt.specs.declared.build.Request.the-variants.{Tcp, Udp, Echo, Piece};
+ghost use Rattle.ezpkt.specs.Build.{flowIp, udpField, echoType, startOf, endOf, pieceFlags, pieceIp, bit, tcpPacket, udpPacket, echoPacket, piecePacket, packetOf, answerOf, sizeOf};
+ghost use Rattle.ezpkt.specs.declared.build.Request.the-variants.{Piece};
 
 // src at the start of dst, whose other bytes stay.
 fn put(src: &[u8], dst: &mut [u8])
@@ -170,7 +170,8 @@ pub(crate) fn span_of(q: IpPiece, n: usize) -> Span
     }
 }
 
-fn flag(on: bool, n: u16) -> u16
+// The bit n where on holds, and no bit where it does not.
+fn bit(on: bool, n: u16) -> u16
     ensures { λ r. ⌜ (r ≡ bit on n) × (r ≤ n) ⌝ }
 {
     if on { n } else { 0 }
@@ -181,9 +182,9 @@ fn piece_flags(q: IpPiece, more: bool) -> u16
     ensures { λ r. ⌜ r ≡ pieceFlags q more ⌝ }
 {
     let t = q.template;
-    let evil = flag(t.evil, ipv4::flags::EVIL);
-    let df = flag(t.df, ipv4::flags::DF);
-    let mf = flag(more, ipv4::flags::MF);
+    let evil = bit(t.evil, ipv4::flags::EVIL);
+    let df = bit(t.df, ipv4::flags::DF);
+    let mf = bit(more, ipv4::flags::MF);
     evil + df + mf + q.off
 }
 
