@@ -25,6 +25,7 @@ unfoldable pub nonzero : ℕ → ℕ
 nonzero zero = 65535
 nonzero (suc n) = suc n
 
--- Checksum: of the pseudo header, the UDP header and the data, between the addresses s and d
+-- Checksum: of the pseudo header, the UDP header and the data, between the addresses s and d. The pseudo header's length is that of the
+-- header and the data; the header carries its own number, which for every datagram that is built is the same.
 unfoldable pub udpChecksum : ℕ → ℕ → «udp_hdr» → List ℕ → ℕ
 udpChecksum s d h p = nonzero (checksum (pseudo s d 17 (8 + length p) ++ (udpHeader h 0 ++ p)))

@@ -36,7 +36,8 @@ fn plain(buf: &[u8]) -> u64
     sum
 }
 
-// A number that folds to what the sum of the words of buf folds to.
+// A number that folds to what the sum of the words of buf folds to. It is below a third of 2^48, so that two of them and a number below
+// 2^20 are together below 2^48.
 pub(crate) fn ip_csum_partial(buf: &[u8]) -> u64
     requires { ⌜ length (now buf) ≤ 65535 ⌝ }
     ensures { λ r. ⌜ (canon r ≡ canon (total (now (buf .entry)))) × (r < 93824992236885) ⌝ }
@@ -58,7 +59,7 @@ fn fold(x: u64) -> u64
     x % 65536 + x / 65536
 }
 
-// A sum folded to 16 bits, and complemented.
+// A sum folded to 16 bits, and complemented. Four steps are enough below 2^48.
 pub(crate) fn ip_csum_fold(running: u64) -> u16
     requires { ⌜ running < 281474976710656 ⌝ }
     ensures { λ r. ⌜ r ≡ 65535 - canon running ⌝ }
@@ -67,7 +68,8 @@ pub(crate) fn ip_csum_fold(running: u64) -> u16
     (65535 - sum) as u16
 }
 
-// The checksum of a header and the payload behind it, from a sum of what stands before them.
+// The checksum of a header and the payload behind it, from a sum of what stands before them: of a pseudo header's six words at most, so
+// below 2^20.
 pub(crate) fn finished(before: u64, header: &[u8], payload: &[u8]) -> u16
     requires { ⌜ (before < 1048576) × (length (now header) ≤ 65535) × (length (now payload) ≤ 65535) ⌝ }
     ensures { λ r. ⌜ r ≡ 65535 - canon (before + total (now (header .entry)) + total (now (payload .entry))) ⌝ }

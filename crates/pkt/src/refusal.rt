@@ -26,7 +26,7 @@ pub const BAD_ASSEMBLY: u8 = 11;
 pub const OTHER_PROTOCOL: u8 = 12;
 // The offset is not 0, or MF is set.
 pub const PIECE: u8 = 13;
-// The transport part is shorter than its header, or says another length.
+// The transport part is shorter than its header, TCP's data offset byte is not 0x50, or UDP's length is not that of the IPv4 payload.
 pub const CUT: u8 = 14;
 // The transport checksum does not verify.
 pub const BAD_SUM: u8 = 15;
