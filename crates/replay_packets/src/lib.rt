@@ -4,8 +4,6 @@
 // The buffer that is lent is as long as the largest end that the packet reaches, and MARGIN more. All
 // of it is MARK when the packet is made. After every case all bytes before the end are compared, by
 // their digest, and every byte from the end on is still MARK.
-use packet::Bits;
-use packet::Copied;
 use packet::Made;
 use packet::Number;
 use packet::Packet;
@@ -154,7 +152,7 @@ fn returned(p: Packet, b: &[u8], buf: &[u8]) -> Step {
 }
 
 // Kinds 68, 69, 6a, 6b and 6d: bytes that are copied out. The part counts where the kind has one.
-fn copied(kind: u8, p: Packet, s: PktSlice, buf: &[u8], out: &mut [u8]) -> Copied {
+fn copied(kind: u8, p: Packet, s: PktSlice, buf: &[u8], out: &mut [u8]) -> Number {
     match kind {
         0x68 => p.to_vec(buf, out),
         0x6b => p.hex_dump(buf, out),
@@ -178,19 +176,24 @@ fn told(kind: u8, b: &[u8]) -> &[u8] {
 fn read(kind: u8, p: Packet, b: &[u8], buf: &[u8], out: &mut [u8]) -> Step {
     let e = told(kind, b);
     match copied(kind, p, part(b), buf, out) {
-        Copied::Bytes(n) => {
+        Number::Is(n) => {
             let same = answer::tells(e, out, n) && is_foretold(kind, p, n, buf);
             stepped(p, fields::rest(e, answer::span(n)), same, buf)
         }
-        Copied::Refused(_) => refused(p),
+        Number::Refused(_) => refused(p),
     }
 }
 
 // Kind 6c.
 fn timed(p: Packet, b: &[u8], buf: &[u8]) -> Step {
     match p.bit_time(buf) {
-        Bits::Is(bits) => stepped(p, fields::rest(b, 8), bits == fields::eight(b, 0), buf),
-        Bits::Refused(_) => refused(p),
+        Number::Is(bits) => stepped(
+            p,
+            fields::rest(b, 8),
+            bits as u64 == fields::eight(b, 0),
+            buf,
+        ),
+        Number::Refused(_) => refused(p),
     }
 }
 
