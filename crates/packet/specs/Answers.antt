@@ -51,7 +51,7 @@ pushedSays (pushed.Refused n) = refused n
 
 -- ---- what is answered for the record p over a buffer of n bytes
 
--- "headroom record with headroom > end, end > buffer or end (also the new one) > 1,048,576", and else a
+-- number 16: "headroom record with headroom > end, end > buffer or end (also the new one) > 1,048,576"; and else a
 abbrev pub ifValid : {A : Type 0} → Packet → ℕ → Answer A → Answer A
 ifValid p n a = cond (valid p n) a (refused 16)
 
@@ -59,11 +59,11 @@ ifValid p n a = cond (valid p n) a (refused 16)
 abbrev pub bitTimeOf : Packet → ℕ
 bitTimeOf p = (lenOf p + 24) * 8
 
--- a new packet with h bytes of headroom, which are to be written
+-- a new packet behind h bytes of headroom, which are to be written: its end is h
 abbrev pub newAnswer : ℕ → ℕ → Answer Packet
 newAnswer h n = cond (ltb mostEnd h) (refused 16) (cond (ltb n h) (refused 3) (gives (packet h h)))
 
--- k bytes appended, which are to be written
+-- k bytes appended, which are to be written: 16 also for the new end
 abbrev pub pushAnswer : Packet → ℕ → ℕ → Answer Grown
 pushAnswer p k n =
     ifValid p n
