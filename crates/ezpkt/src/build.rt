@@ -1,11 +1,12 @@
 // One request to build names one kind of packet.
 use crate::ip4::Template;
 use crate::write;
+use pkt::ipv4::tcp_hdr;
 use pkt::refusal;
 ghost use mathlib.Core.Path.{_≡_};
 ghost use Prim.Native.Nat.{_≤_};
 ghost use Rattle.ezpkt.specs.Answers.{builtSays};
-ghost use Rattle.ezpkt.specs.Build.{sizedAnswer, pieceAnswer, answerOf, Answered};
+ghost use Rattle.ezpkt.specs.Build.{tcpHdr, sizedAnswer, pieceAnswer, answerOf, Answered};
 
 // A TCP segment between two addresses and ports.
 #[repr(C)]
@@ -18,6 +19,21 @@ pub struct TcpSegment {
     pub ack: u32,
     pub flags: u8,
     pub frag_off: u16,
+}
+
+impl TcpSegment {
+    // The segment's TCP header.
+    pub fn hdr(self) -> tcp_hdr
+        ensures { λ r. ⌜ r ≡ tcpHdr self ⌝ }
+    {
+        tcp_hdr {
+            sport: self.sport,
+            dport: self.dport,
+            seq: self.seq,
+            ack: self.ack,
+            flags: self.flags,
+        }
+    }
 }
 
 // A UDP datagram between two addresses and ports, with a checksum or with none.

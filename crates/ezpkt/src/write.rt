@@ -9,7 +9,6 @@ use pkt::ipv4::Sum;
 use pkt::ipv4::icmp_echo_hdr;
 use pkt::ipv4::icmp_hdr;
 use pkt::ipv4::ip_hdr;
-use pkt::ipv4::tcp_hdr;
 use pkt::ipv4::udp_hdr;
 ghost use mathlib.Core.Path.{_≡_};
 ghost use mathlib.Core.List.{_++_};
@@ -68,13 +67,7 @@ fn tcp(t: TcpSegment, payload: &[u8], out: &mut [u8])
     requires { ⌜ (length (now payload) ≤ 65495) × (40 + length (now payload) ≤ length (now out)) ⌝ }
     ensures { λ _. ⌜ now (out .exit) ≡ written (tcpPacket t (now (payload .entry))) (now (out .entry)) ⌝ }
 {
-    let h = tcp_hdr {
-        sport: t.sport,
-        dport: t.dport,
-        seq: t.seq,
-        ack: t.ack,
-        flags: t.flags,
-    };
+    let h = t.hdr();
     let csum = number(ipv4::tcp_csum(t.saddr, t.daddr, h, payload));
     let ip = flow_ip(
         ipv4::proto::TCP,

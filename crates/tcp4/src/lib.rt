@@ -5,7 +5,6 @@ use ezpkt::build::Request;
 use ezpkt::build::TcpSegment;
 use ezpkt::part;
 use pkt::ipv4;
-use pkt::ipv4::tcp_hdr;
 use pkt::refusal;
 ghost use mathlib.Core.Path.{_≡_};
 ghost use mathlib.Core.Bool.{true};
@@ -249,14 +248,7 @@ impl TcpFlow {
     fn hdr(self, side: Side, dlen: u32, csum: u16) -> Header
         ensures { λ r. ⌜ r ≡ headed self side dlen csum ⌝ }
     {
-        let t = self.segment(side, PSH_ACK, 0);
-        let h = tcp_hdr {
-            sport: t.sport,
-            dport: t.dport,
-            seq: t.seq,
-            ack: t.ack,
-            flags: t.flags,
-        };
+        let h = self.segment(side, PSH_ACK, 0).hdr();
         Header {
             flow: self.update(side, dlen),
             bytes: h.to_bytes(csum),

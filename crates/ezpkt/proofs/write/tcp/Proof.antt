@@ -1,6 +1,6 @@
 -- The checksum was not refused, and the three parts stand end to end.
 use Rattle.pkt.specs.Rfc9293.{tcpHeader}
-use Rattle.ezpkt.specs.Build.{tcpPacket, tcpHdr}
+use Rattle.ezpkt.specs.Build.{tcpPacket}
 use Rattle.ezpkt.proofs.Deciding.{summed-is}
 use Rattle.pkt.specs.Written.{written}
 use lib.ListN.{length}
@@ -19,19 +19,21 @@ returns c =
     let at-ip = at-head .before in
     let at-number = at-ip .before in
     let at-csum = at-number .before in
-    let start = at-csum .before .before .before in
+    let at-hdr = at-csum .before in
+    let start = at-hdr .before .before .before in
     let a = start .args in
     let p : List ℕ = a .payload .now in
     let csum = at-number .number .ensures ∙ summed-is (at-csum .tcp-csum .result) 65495 (length p) _ (at-csum .tcp-csum .ensures) (start .pre .0) in
     at-put .put-all .ensures
     ∙ ap₂ (λ (x y : List ℕ). written (x ++ (y ++ p)) (a .out .now))
     (at-ip .flow-ip .ensures)
-    (at-head .to-bytes .ensures ∙ ap (tcpHeader (tcpHdr (a .t))) csum)
+    (rw (at-hdr .hdr .ensures) at (at-head .to-bytes .ensures ∙ ap (tcpHeader (at-hdr .hdr .result)) csum))
 
 pub tcp-spec : {M : Type 1} → statement M
 tcp-spec =
     tie.close
     (tie.spec
+    (λ c κs. search needs)
     (λ c κs. search needs)
     (λ c κs. search needs)
     (λ c. search needs)
