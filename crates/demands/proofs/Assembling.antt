@@ -1,12 +1,12 @@
 -- Demand 3 for packets that are built: each is read back as the part of the payload that it was asked for, and those assemble to it.
-use mathlib.Core.Path.{_≡_, refl, sym, ap, _∙_}
+use mathlib.Core.Path.{_≡_, refl, sym, ap, subst, _∙_}
 use mathlib.Core.Logic.{_↔_}
 use mathlib.Core.Bool.{Bool, true, false, not}
 use mathlib.Core.List.{List, [], _∷_, _++_, append-assoc, append-nil, List·Memᴰ, List·Memᴰ·head, List·Memᴰ·not-nil, Memᴰ·append-left}
 use Prim.Native.Nat.{ℕ, zero, suc, _+_, _-_, _*_, _≤_, _<_, min}
 use native.Mathlib.Omega.{arith}
 use lib.ListN.{length, take, drop, length-append}
-use lib.Seq.{slice, take-nil, take-at, drop-at, take-length}
+use lib.Seq.{slice, length-slice, take-nil, take-at, drop-at, take-length}
 use lib.Dec.{eqb}
 use borrow.Author.Tests.{eq-eqb}
 use Rattle.pkt.specs.Answers.{Answer, gives}
@@ -22,7 +22,7 @@ use Rattle.inspect.specs.Header.{readAnswer, dataOf}
 use Rattle.inspect.specs.Encoded.{readOf}
 use Rattle.inspect.proofs.Decoding.{Fit, decoded}
 use Rattle.assembly.specs.declared.Key.{Key}
-use Rattle.assembly.specs.Piece.{Piece, end, Acceptable, _∈_}
+use Rattle.assembly.specs.Piece.{Piece, end, Holds, Acceptable, _∈_}
 use Rattle.assembly.specs.Assembly.{State, opened, step, run, complete, whole}
 use Rattle.assembly.specs.View.{piece}
 use Rattle.assembly.specs.Cut.{cut, Part, Covers}
@@ -36,7 +36,7 @@ use Rattle.assembly.proofs.Assembles.{assembles-here}
 use Rattle.assembly.proofs.Calls.{shown-yes}
 use Rattle.assembly.proofs.Delivers.{piecesOf, piece-from, piece-in, taken-is, taken-usable, delivers-here}
 use Rattle.demands.specs.Ranges.{Fitting}
-use Rattle.demands.specs.Assembling.{keyOf, BuiltFrom, by-fragment, by-tail, by-datagram, PastEnd, AllBuilt, Cover, taken, Reassembles}
+use Rattle.demands.specs.Assembling.{keyOf, Asked, by-fragment, by-tail, by-datagram, PastEnd, AllBuilt, Reached, Cover, taken, Reassembles}
 use Rattle.demands.proofs.Pieces.{flags-more, flags-offset, piece-fit}
 
 -- ---- the packet of a piece is read back as that piece
@@ -47,6 +47,11 @@ between-slice zero e d = let z : e - 0 ≡ e = omega arith in rw z refl
 between-slice (suc s) zero d = let z : 0 - suc s ≡ 0 = omega arith in rw z refl
 between-slice (suc s) (suc e) [] = take-nil (suc e - suc s)
 between-slice (suc s) (suc e) (x ∷ d) = let z : suc e - suc s ≡ e - s = omega arith in rw z (between-slice s e d)
+
+-- A piece asked for up to the payload's end has MF clear.
+last-clear : (d : List ℕ) (off len : ℕ) → length d ≤ 8 * off + 8 * len → cut d off len .mf ≡ false
+unfolding cut
+last-clear d off len h = let e : min (8 * off + 8 * len) (length d) ≡ length d = omega arith in ap not (eq-eqb _ _ e)
 
 module _ (t : Template) (d : List ℕ) (fits : Fitting t) (few : length d ≤ capacity) where
   module _ (off len : ℕ) (rest : List ℕ) (low : off ≤ 8191) where
@@ -107,20 +112,38 @@ module _ (t : Template) (d : List ℕ) (fits : Fitting t) (few : length d ≤ ca
   part-at : (off len : ℕ) → 8 * off ≤ length d → Part d (cut d off len)
   part-at off len h = record { off = off; len = len; within = h; built = refl }
 
-  pub built-carries : (l : List ℕ) → BuiltFrom t d l → (p : Piece) × Part d p × (pieceAnswer capacity (keyOf t) l ≡ gives p)
-  built-carries l b = go b
-    where
-      cut-at : (off len : ℕ) (rest : List ℕ) → 8 * off ≤ length d → l ≡ packetOf (fragmentOf t off len) d ++ rest
-          → (p : Piece) × Part d p × (pieceAnswer capacity (keyOf t) l ≡ gives p)
-      cut-at off len rest h e =
-          let part = part-at off len h in
-          let low : off ≤ 8191 = omega arith in
-          (cut d off len, part, ap (pieceAnswer capacity (keyOf t)) e ∙ carried off len rest low (part-acceptable capacity d (cut d off len) few part .fits))
+  asked-within : (l : List ℕ) (off len : ℕ) → Asked t d l off len → 8 * off ≤ length d
+  asked-within l off len (by-fragment o n rest h e) = h
+  asked-within l off len (by-tail o rest h e) = h
+  asked-within l off len (by-datagram rest e) = omega arith
 
-      go : BuiltFrom t d l → (p : Piece) × Part d p × (pieceAnswer capacity (keyOf t) l ≡ gives p)
-      go (by-fragment off len rest h e) = cut-at off len rest h e
-      go (by-tail off rest h e) = cut-at off (length d) rest h e
+  asked-carries : (l : List ℕ) (off len : ℕ) → Asked t d l off len → pieceAnswer capacity (keyOf t) l ≡ gives (cut d off len)
+  asked-carries l off len b = go b
+    where
+      cut-at : (o n : ℕ) (rest : List ℕ) → 8 * o ≤ length d → l ≡ packetOf (fragmentOf t o n) d ++ rest
+          → pieceAnswer capacity (keyOf t) l ≡ gives (cut d o n)
+      cut-at o n rest h e =
+          let low : o ≤ 8191 = omega arith in
+          ap (pieceAnswer capacity (keyOf t)) e
+          ∙ carried o n rest low (part-acceptable capacity d (cut d o n) few (part-at o n h) .fits)
+
+      go : {o n : ℕ} → Asked t d l o n → pieceAnswer capacity (keyOf t) l ≡ gives (cut d o n)
+      go (by-fragment o n rest h e) = cut-at o n rest h e
+      go (by-tail o rest h e) = cut-at o (length d) rest h e
       go (by-datagram rest e) = cut-at 0 (length d) rest (omega arith) e
+
+  -- What such a packet is accepted with is the part that was asked for.
+  asked-is : (l : List ℕ) (p : Piece) (off len : ℕ) → Asked t d l off len → pieceAnswer capacity (keyOf t) l ≡ gives p → p ≡ cut d off len
+  asked-is l p off len b e = let y = asked-carries l off len b in cc (e, y)
+
+  -- It ends where what was asked for ends.
+  asked-end : (off len : ℕ) → 8 * off ≤ length d → end (cut d off len) ≡ min (8 * off + 8 * len) (length d)
+  unfolding cut
+  asked-end off len h =
+      let f : ℕ = min (8 * off) (length d) in
+      let e : ℕ = min (8 * off + 8 * len) (length d) in
+      let size : length (slice f e d) ≡ e - f = length-slice f e d (omega arith) in
+      omega (arith, size)
 
   -- ---- lists of them
   here : (k : Key) → demand.Assembles k capacity mapBytes
@@ -137,9 +160,8 @@ module _ (t : Template) (d : List ℕ) (fits : Fitting t) (few : length d ≤ ca
     unfolding ps
     parts p m =
         let x = piece-from capacity (keyOf t) ls p m in
-        let y = built-carries (x .0) (all (x .0) (x .1 .handed)) in
-        let z : p ≡ y .0 = cc (x .1 .carries, y .2) in
-        rw z (y .1)
+        let (off, len, y) = all (x .0) (x .1 .handed) in
+        rw (asked-is (x .0) p off len y (x .1 .carries)) (part-at off len (asked-within (x .0) off len y))
 
     not-none : 0 < length ls → 0 < length ps
     unfolding ps
@@ -148,8 +170,8 @@ module _ (t : Template) (d : List ℕ) (fits : Fitting t) (few : length d ≤ ca
         go : (ms : List (List ℕ)) → AllBuilt t d ms → 0 < length ms → 0 < length (piecesOf capacity (keyOf t) ms)
         go [] a h = absurd (omega arith)
         go (l ∷ ms) a h =
-            let y = built-carries l (a l (List·Memᴰ·head refl)) in
-            mem-length (piece-in capacity (keyOf t) (l ∷ ms) l (y .0) (record { handed = List·Memᴰ·head refl; carries = y .2 }))
+            let (off, len, y) = a l (List·Memᴰ·head refl) in
+            mem-length (piece-in capacity (keyOf t) (l ∷ ms) l (cut d off len) (record { handed = List·Memᴰ·head refl; carries = asked-carries l off len y }))
           where
             mem-length : {p : Piece} {qs : List Piece} → p ∈ qs → 0 < length qs
             mem-length {p} {qs = []} m = absurd (List·Memᴰ·not-nil m)
@@ -163,14 +185,40 @@ module _ (t : Template) (d : List ℕ) (fits : Fitting t) (few : length d ≤ ca
         go [] h = h
         go (l ∷ ms) h = omega arith
 
-    covers : Covers ps (length d) ↔ Cover (keyOf t) ls (length d)
-    unfolding ps Covers Cover
-    covers = (
-      λ c j h. let x = c j h in let y = piece-from capacity (keyOf t) ls (x .0) (x .1) in (y .0, x .0, y .1, x .2),
-      λ c j h. let x = c j h in (x .1, piece-in capacity (keyOf t) ls (x .0) (x .1) (x .2), x .3),
-    )
+    -- The pieces hold every place exactly if every place was asked for.
+    reached : (j : ℕ) (p : Piece) → p ∈ ps → Holds p j → Reached t d ls j
+    unfolding ps cut
+    reached j p m h =
+        let x = piece-from capacity (keyOf t) ls p m in
+        let (off, len, y) = all (x .0) (x .1 .handed) in
+        let is = asked-is (x .0) p off len y (x .1 .carries) in
+        let in-it : Holds (cut d off len) j = subst (λ (q : Piece). Holds q j) is h in
+        let low = asked-within (x .0) off len y in
+        record {
+          packet = x .0;
+          off = off;
+          len = len;
+          handed = x .1 .handed;
+          asked = y;
+          from = omega (arith, in-it .from);
+          till = omega (arith, in-it .till, asked-end off len low);
+        }
 
-    built-complete : (complete (taken t ls) ≡ true) ↔ ((0 < length ls) × Cover (keyOf t) ls (length d))
+    held-at : (j : ℕ) → Reached t d ls j → (p : Piece) × (p ∈ ps) × Holds p j
+    unfolding ps cut
+    held-at j r =
+        let p : Piece = cut d (r .off) (r .len) in
+        let low = asked-within (r .packet) (r .off) (r .len) (r .asked) in (
+          p,
+          piece-in capacity (keyOf t) ls (r .packet) p (record { handed = r .handed; carries = asked-carries (r .packet) (r .off) (r .len) (r .asked) }),
+          record { from = omega (arith, r .from); till = omega (arith, r .till, asked-end (r .off) (r .len) low) },
+        )
+
+    covers : Covers ps (length d) ↔ Cover t d ls
+    unfolding Covers Cover
+    covers = (λ c j h. let x = c j h in reached j (x .0) (x .1) (x .2), λ c j h. held-at j (c j h))
+
+    built-complete : (complete (taken t ls) ≡ true) ↔ ((0 < length ls) × Cover t d ls)
     unfolding ps
     built-complete =
         let e = ap complete (state-is ls) in
@@ -194,21 +242,18 @@ module _ (t : Template) (d : List ℕ) (fits : Fitting t) (few : length d ≤ ca
       ap (pieceAnswer capacity (keyOf t)) (x .built)
       ∙ carried (x .off) (x .len) (x .rest) low (omega (arith, cut-past d (x .off) (x .len) (x .past), x .room))
 
-  past-spoils : (l m : List ℕ) (p : Piece) → PastEnd t d l → BuiltFrom t d m → pieceAnswer capacity (keyOf t) m ≡ gives p → p .mf ≡ false
+  past-spoils : (l m : List ℕ) (off len : ℕ) → PastEnd t d l → Asked t d m off len → length d ≤ 8 * off + 8 * len
       → (ls : List (List ℕ)) → List·Memᴰ l ls → List·Memᴰ m ls → taken t ls .spoilt ≡ true
-  past-spoils l m p x b e last ls lm mm =
-      let y = built-carries m b in
-      let z : p ≡ y .0 = cc (e, y .2) in
-      let part : Part d p = rw z (y .1) in
+  past-spoils l m off len x b up ls lm mm =
       delivers-here (keyOf t) .spoilt-when ls .1
       (record {
         one = l;
         other = m;
         p = cut d (x .off) (x .len);
-        q = p;
+        q = cut d off len;
         one-in = record { handed = lm; carries = past-carries l x };
-        other-in = record { handed = mm; carries = e };
-        clash = here (keyOf t) .past-end d (x .off) (x .len) (x .past) p part last;
+        other-in = record { handed = mm; carries = asked-carries m off len b };
+        clash = here (keyOf t) .past-end d (x .off) (x .len) (x .past) (cut d off len) (part-at off len (asked-within m off len b)) (last-clear d off len up);
       })
 
   -- Demand 3: "If all were built from one payload of at most 65,515 bytes under one header with the assembly's key, none asked for past its
@@ -217,10 +262,10 @@ module _ (t : Template) (d : List ℕ) (fits : Fitting t) (few : length d ≤ ca
   pub reassembles : Reassembles t d
   reassembles =
       record {
+        carries = asked-carries;
         accepted =
-            λ ls l b.
-            let y = built-carries l b in
-            (y .0, y .1, delivers-here (keyOf t) .answers ls l ∙ ap (λ (a : Answer Piece). mapped (step (taken t ls)) a) (y .2));
+            λ ls l off len b.
+            delivers-here (keyOf t) .answers ls l ∙ ap (λ (a : Answer Piece). mapped (step (taken t ls)) a) (asked-carries l off len b);
         never-spoilt = λ ls later all. built-sound ls (λ l m. all l (Memᴰ·append-left later m));
         complete-when = λ ls all. built-complete ls all;
         held =
@@ -231,8 +276,7 @@ module _ (t : Template) (d : List ℕ) (fits : Fitting t) (few : length d ≤ ca
 
 -- "`tail` takes len = n; `datagram` carries all with offset 0 and MF clear": the one says that nothing follows, the other carries the payload.
 pub tail-last : (d : List ℕ) (off : ℕ) → cut d off (length d) .mf ≡ false
-unfolding cut
-tail-last d off = let e : min (8 * off + 8 * length d) (length d) ≡ length d = omega arith in ap not (eq-eqb _ _ e)
+tail-last d off = last-clear d off (length d) (omega arith)
 
 pub datagram-all : (d : List ℕ) → cut d 0 (length d) ≡ piece 0 false d
 unfolding cut

@@ -1,5 +1,5 @@
 -- Demand 1's refusals: a contract tells what is left by the answer, and by a refusal that is what was there.
-use mathlib.Core.Path.{_≡_, refl, sym, ap, ap₂, _∙_}
+use mathlib.Core.Path.{_≡_, sym, ap, _∙_}
 use mathlib.Core.List.{List}
 use Prim.Native.Nat.{ℕ}
 use native.Mathlib.Omega.{arith}
@@ -41,10 +41,10 @@ refused-keep =
     record {
       building = λ q p o o′ n x. left _ n _ o o′ (x .answer) (x .after);
       echoing =
-          λ q f own p o o′ n x.
+          λ q f p o o′ n x.
           let a = answerOf q (length p) (length o) in
-          (left a n (packetOf q p) o o′ (flow-refused f a n (x .answer)) (x .after), refl);
-      sending = λ f es o o′ n x. (left _ n _ o o′ (x .answer) (x .after-it), refl);
+          left a n (packetOf q p) o o′ (flow-refused f a n (x .answer)) (x .after);
+      sending = λ f es o o′ n x. left _ n _ o o′ (x .answer) (x .after-it);
       opening =
           λ C M k d m d′ m′ n x.
           let a = openAnswer C M k (length d) (length m) in
@@ -54,7 +54,7 @@ refused-keep =
           λ C M r d m l d′ m′ n x.
           let a = takeAnswer C M (view r d m) l in
           let e = mapped-refused replyOf a n (x .answer) in
-          ap₂ (view r) (payload-left a n d d′ e (x .payload-is)) (map-left a n m m′ e (x .map-is));
+          (payload-left a n d d′ e (x .payload-is), map-left a n m m′ e (x .map-is));
       making = λ h b b′ n x. x .after ∙ kept _ n _ b (sym (x .answer));
       appending = λ p k d b b′ n x. x .after ∙ kept _ n _ b (sym (x .answer));
       prepending = λ p d b b′ n x. x .after ∙ kept _ n _ b (sym (x .answer));

@@ -24,7 +24,7 @@ use Rattle.ezpkt.specs.declared.build.Request.the-variants.{Tcp, Udp, Echo, Pie
 use Rattle.ezpkt.specs.declared.build.Built.the-variants.{Packet}
 use Rattle.ezpkt.proofs.Deciding.{sized-fits, piece-fits}
 use Rattle.ezpkt.proofs.Verifying.{behind, built-packet}
-use Rattle.inspect.specs.Answers.{good}
+use Rattle.inspect.specs.Answers.{Verdict, good}
 use Rattle.inspect.specs.Check.{isPiece, partAnswer, checkAnswer}
 use Rattle.inspect.specs.declared.header.IpRead.{IpRead}
 use Rattle.inspect.specs.Encoded.{readOf}
@@ -38,11 +38,11 @@ use Rattle.demands.specs.Ranges.{Fitting}
 use Rattle.demands.specs.Checked.{udpVerdict}
 use Rattle.demands.specs.Assembling.{keyOf}
 use Rattle.demands.specs.Handing.{by-take}
-use Rattle.demands.specs.Round.{payloadIn, Names, Carries, verdictOf, Finished, heldOf, RoundTrip}
+use Rattle.demands.specs.Round.{payloadIn, Names, Owed, of-tcp, of-udp, of-echo, Finished, heldOf, RoundTrip}
 use Rattle.demands.proofs.Left.{left-by}
 use Rattle.demands.proofs.Handing.{handed-is, complete-told}
 use Rattle.demands.proofs.Assembling.{reassembles}
-use Rattle.demands.proofs.Completing.{cut-built, completes}
+use Rattle.demands.proofs.Completing.{cut-asked, all-built, completes}
 use Rattle.demands.proofs.Pieces.{piece-read}
 use Rattle.demands.proofs.Checked.{piece-checked}
 
@@ -84,12 +84,11 @@ module _ (t : Template) (len size : ℕ) where
       ∙ echo-good whole p bp no-piece (icmpNew (echoType (x .reply))) (echoNew (x .seq)) (names .0)
 
   -- The payload of a packet that is built gets the verdict that it deserves.
-  part-good : (q : Request) (p : List ℕ) (room n : ℕ) → Carries t q → Bytes p → answerOf q (length p) room ≡ gives n
-      → partAnswer whole (drop 20 (packetOf q p)) ≡ gives (verdictOf q)
-  part-good (Tcp x) p room n c bp e = tcp-part x p c bp
-  part-good (Udp x) p room n c bp e = udp-part x p c bp (sized-fits 65507 28 (length p) room n e .few)
-  part-good (Echo x) p room n c bp e = echo-part x p c bp
-  part-good (Piece x) p room n c bp e = absurd c
+  part-good : (q : Request) (v : Verdict) (p : List ℕ) (room n : ℕ) → Owed t q v → Bytes p → answerOf q (length p) room ≡ gives n
+      → partAnswer whole (drop 20 (packetOf q p)) ≡ gives v
+  part-good q v p room n (of-tcp x names) bp e = tcp-part x p names bp
+  part-good q v p room n (of-udp x names) bp e = udp-part x p names bp (sized-fits 65507 28 (length p) room n e .few)
+  part-good q v p room n (of-echo x names) bp e = echo-part x p names bp
 
 -- No packet that is built is above 65,535 bytes.
 size-most : (q : Request) (n room k : ℕ) → answerOf q n room ≡ gives k → k ≤ 65535
@@ -112,9 +111,9 @@ datagram-checked t d o b n fits few x =
 -- Demand 3: "It is complete exactly when at least one was handed in and together they cover the payload, and it then holds that payload",
 -- over the calls that build, cut, assemble and check: what is put together again is the IPv4 payload of the packet that was built, and the
 -- datagram that is built of it is good.
-pub round-trip : (t : Template) (q : Request) (p o b : List ℕ) (n : ℕ) → Fitting t → Carries t q → Bytes p → Answered q p o (Packet n) b
-    → RoundTrip t (verdictOf q) (payloadIn n b)
-round-trip t q p o b n fits c bp x =
+pub round-trip : (t : Template) (q : Request) (v : Verdict) (p o b : List ℕ) (n : ℕ) → Fitting t → Owed t q v → Bytes p → Answered q p o (Packet n) b
+    → RoundTrip t v (payloadIn n b)
+round-trip t q v p o b n fits c bp x =
     let d : List ℕ = payloadIn n b in
     let front = built-packet q p o b (Packet n) n x refl in
     let is : d ≡ drop 20 (packetOf q p) = ap (drop 20) (front .1) in
@@ -124,12 +123,12 @@ round-trip t q p o b n fits c bp x =
     λ r payload map f.
     let e = handed-is (keyOf t) _ r payload map (by-take (f .before) (f .last) (f .payload₀) (f .map₀) payload map (f .rec) (Complete r) (f .handed) (f .answered)) in
     ap (shown capacity mapBytes) e
-    ∙ reassembles t d fits few .held (f .before ++ (f .last ∷ [])) (λ l m. cut-built t d l (f .cut l m))
+    ∙ reassembles t d fits few .held (f .before ++ (f .last ∷ [])) (all-built t d _ (f .cut))
     (sym (ap complete e) ∙ complete-told capacity mapBytes _ (f .last) r payload map (f .answered))
     in
     record {
       assembles = reassembles t d fits few;
-      pieces = cut-built t d;
+      pieces = cut-asked t d;
       handing = handed-is (keyOf t);
       completes =
           λ before last r payload map payload′ map′ a handed call all.
@@ -139,5 +138,5 @@ round-trip t q p o b n fits c bp x =
           λ r payload map f o₂ b₂ n₂ y.
           datagram-checked t d o₂ b₂ n₂ fits few (subst (λ (s : List ℕ). Answered (datagramOf t (length s)) s o₂ (Packet n₂) b₂) (held r payload map f) y)
           ∙ ap (partAnswer (whole t (length d) (20 + length d))) is
-          ∙ part-good t (length d) (20 + length d) q p (length o) n c bp (sym (x .answer));
+          ∙ part-good t (length d) (20 + length d) q v p (length o) n c bp (sym (x .answer));
     }

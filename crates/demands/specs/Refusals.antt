@@ -6,13 +6,11 @@ use Prim.Native.Nat.{ℕ}
 use Rattle.pkt.specs.Answers.{Answer}
 use Rattle.ezpkt.specs.Build.{Answered}
 use Rattle.ezpkt.specs.Icmp4.{Echoed}
-use Rattle.tcp4.specs.Tcp4.{Emit, sentSays, Sends}
-use Rattle.tcp4.specs.Sequence.{flowBy}
+use Rattle.tcp4.specs.Tcp4.{Emit, Sends}
 use Rattle.ezpkt.specs.declared.build.Request.{Request}
 use Rattle.ezpkt.specs.declared.build.Built.the-variants as built
 use Rattle.ezpkt.specs.declared.icmp4.IcmpFlow.{IcmpFlow}
 use Rattle.ezpkt.specs.declared.icmp4.Sent.the-variants as echo
-use Rattle.ezpkt.specs.declared.icmp4.Sent as icmp
 use Rattle.tcp4.specs.declared.TcpFlow.{TcpFlow}
 use Rattle.tcp4.specs.declared.Sent.the-variants as sent
 use Rattle.assembly.specs.declared.Key.{Key}
@@ -20,7 +18,6 @@ use Rattle.assembly.specs.declared.Rec.{Rec}
 use Rattle.assembly.specs.declared.Opened.the-variants as opened
 use Rattle.assembly.specs.declared.Taken.the-variants as taken
 use Rattle.assembly.specs.View.{view}
-use Rattle.assembly.specs.Answers.{takenSays, recAfter}
 use Rattle.assembly.specs.Calls.{Opens, Takes}
 use Rattle.packet.specs.Answers.{Opened, Appended, Prepended, CopiedOut}
 use Rattle.packet.specs.declared.Packet.{Packet}
@@ -30,26 +27,19 @@ use Rattle.packet.specs.declared.Number.the-variants as number
 use Rattle.pcap.specs.Answers.{Wrote}
 use Rattle.pcap.specs.declared.Captured.the-variants as captured
 
--- The flow that a caller has after an answer: the one that is handed back. A refusal hands none back, and the caller still has its own.
-abbrev pub echoFlow : icmp.Sent → IcmpFlow → IcmpFlow
-echoFlow (echo.Packet f n) own = f
-echoFlow (echo.Refused n) own = own
-
--- Every call that is lent bytes to write, or that is handed a flow or an assembly, by the contract that it has. A number n is refused.
+-- Every call of the library crates that is lent bytes to write, by the contract that it has. A number n is refused. A refusal hands no flow
+-- and no assembly's record back, because it holds its number only: its type alone says that the caller goes on with what it has.
 pub record RefusedKeep : Type 0 where
   -- `build`, `fragment`, `tail`, `datagram`, `client_dgram`, `server_dgram`: the output
   pub building : (q : Request) (p o o′ : List ℕ) (n : ℕ) → Answered q p o (built.Refused n) o′ → o′ ≡ o
-  -- `echo`, `echo_reply`: the output and the flow
-  pub echoing : (q : Request) (f own : IcmpFlow) (p o o′ : List ℕ) (n : ℕ) → Echoed q f p o (echo.Refused n) o′
-      → (o′ ≡ o) × (echoFlow (echo.Refused n) own ≡ own)
-  -- the calls of `TcpFlow` that send: the output and the flow
-  pub sending : (f : TcpFlow) (es : List Emit) (o o′ : List ℕ) (n : ℕ) → Sends f es o (sent.Refused n) o′
-      → (o′ ≡ o) × (flowBy (sentSays (sent.Refused n)) f ≡ f)
+  -- `echo`, `echo_reply`: the output
+  pub echoing : (q : Request) (f : IcmpFlow) (p o o′ : List ℕ) (n : ℕ) → Echoed q f p o (echo.Refused n) o′ → o′ ≡ o
+  -- the calls of `TcpFlow` that send: the output
+  pub sending : (f : TcpFlow) (es : List Emit) (o o′ : List ℕ) (n : ℕ) → Sends f es o (sent.Refused n) o′ → o′ ≡ o
   -- `open` of an assembly: both buffers
   pub opening : (C M : ℕ) (k : Key) (d m d′ m′ : List ℕ) (n : ℕ) → Opens C M k d m (opened.Refused n) d′ m′ → (d′ ≡ d) × (m′ ≡ m)
-  -- `take`: the record and both buffers
-  pub taking : (C M : ℕ) (r : Rec) (d m l d′ m′ : List ℕ) (n : ℕ) → Takes C M (view r d m) l (taken.Refused n) d′ m′
-      → view (recAfter (takenSays (taken.Refused n)) r) d′ m′ ≡ view r d m
+  -- `take`: both buffers
+  pub taking : (C M : ℕ) (r : Rec) (d m l d′ m′ : List ℕ) (n : ℕ) → Takes C M (view r d m) l (taken.Refused n) d′ m′ → (d′ ≡ d) × (m′ ≡ m)
   -- `Packet::new`: the buffer
   pub making : (h : ℕ) (b b′ : List ℕ) (n : ℕ) → Opened h b (made.Refused n) b′ → b′ ≡ b
   -- `push_slice`, `push_bytes`, `push_hdr`, `push`: the buffer
