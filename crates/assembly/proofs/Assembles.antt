@@ -14,7 +14,7 @@ use Rattle.assembly.specs.Piece.{Piece, end, Contradict, two-ends}
 use Rattle.assembly.specs.Assembly.{State, cleared, opened, run, complete, bytesBelow, whole, recordFits, valid}
 use Rattle.assembly.specs.Cut.{cut, Part}
 use Rattle.assembly.specs.Calls.{capacity, mapBytes}
-use Rattle.assembly.specs.Demand.{Assembles, Accepted}
+use Rattle.assembly.specs.Demand.{Assembles, AllAcceptable}
 use Rattle.assembly.proofs.Steps.{fits-of}
 use Rattle.assembly.proofs.Pieces.{Some, None, any}
 use Rattle.assembly.proofs.Describes.{Good, Describes, spoiled, sound, run-describes, any-order, spoilt-exactly}
@@ -38,7 +38,7 @@ valid-of : (s : State) → ((t : ℕ) → s .total ≡ some t → t ≤ length (
 unfolding recordFits
 valid-of s h f = rw (fits-of (length (s .payload)) (s .total) h, le-leb _ _ f) refl
 
-good-valid : (κ : Key) (C M : ℕ) (s : State) (ps : List Piece) → Accepted C ps → Good κ C M s ps → valid s ≡ true
+good-valid : (κ : Key) (C M : ℕ) (s : State) (ps : List Piece) → AllAcceptable C ps → Good κ C M s ps → valid s ≡ true
 unfolding Some None
 good-valid κ C M s ps ok g = valid-of s (λ t e. total t e (any (λ q. Bool-discrete (q .mf) false) ps)) (floor (g .floor-out))
   where
@@ -53,7 +53,7 @@ good-valid κ C M s ps ok g = valid-of s (λ t e. total t e (any (λ q. Bool-dis
     floor (inl z) = omega arith
     floor (inr q) = omega (arith, q .2 .1, ok (q .0) (q .1) .fits, ok (q .0) (q .1) .whole (q .2 .0), g .size)
 
-pub describes-valid : (κ : Key) (C M : ℕ) (s : State) (ps : List Piece) → Accepted C ps → Describes κ C M s ps → valid s ≡ true
+pub describes-valid : (κ : Key) (C M : ℕ) (s : State) (ps : List Piece) → AllAcceptable C ps → Describes κ C M s ps → valid s ≡ true
 describes-valid κ C M s ps ok (spoiled c e) =
     ap valid e
     ∙ valid-of (cleared κ C M true) (λ t h. let z : _≡_ {A = ℕ} 0 1 = cc in absurd (omega arith)) (omega arith)

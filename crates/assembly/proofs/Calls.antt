@@ -1,13 +1,14 @@
 -- What the public calls' tests tell, and the ways of their answers.
 use mathlib.Core.Path.{_≡_, refl, sym, ap, _∙_}
-use mathlib.Core.Bool.{Bool, true, false, _&&_}
-use mathlib.Core.List.{List, []}
-use Prim.Native.Nat.{ℕ, _-_}
+use mathlib.Core.Bool.{Bool, true, false, _&&_, cond}
+use mathlib.Core.List.{List, [], _++_}
+use Prim.Native.Nat.{ℕ, _-_, _≤_}
 use native.Mathlib.Omega.{arith}
 use lib.ListN.{length, take}
 use lib.Dec.{eqb}
 use borrow.Author.Tests.{eqb-true, eq-eqb}
-use Rattle.pkt.specs.Answers.{Answer, refused, gives}
+use Rattle.pkt.specs.Answers.{Answer, refused, gives, mapped}
+use Rattle.inspect.specs.Header.{totalOf}
 use Rattle.assembly.specs.declared.Key.{Key}
 use Rattle.assembly.specs.declared.Rec.{Rec}
 use Rattle.assembly.specs.declared.Opened.{Opened}
@@ -17,11 +18,12 @@ use Rattle.assembly.specs.declared.Taken.the-variants as taken
 use Rattle.assembly.specs.Piece.{Piece}
 use Rattle.assembly.specs.Assembly.{State, cleared, opened, step, totalFits, recordFits, valid, whole}
 use Rattle.assembly.specs.View.{view, recordOf}
-use Rattle.assembly.specs.Answers.{openedSays, takenSays, replyOf, mapped, payloadAfter, mapAfter, Moved}
+use Rattle.assembly.specs.Answers.{openedSays, takenSays, replyOf, payloadAfter, mapAfter, Moved}
 use Rattle.assembly.specs.Carried.{pieceAnswer}
 use Rattle.assembly.specs.Calls.{sized, usable, openAnswer, Opens, takeAnswer, Takes, shown}
 use Rattle.pkt.proofs.Choice.{and-both, pick-yes, pick-no}
 use Rattle.assembly.proofs.Steps.{record-of}
+use Rattle.assembly.proofs.Carrying.{carried-front}
 
 module _ (C M : ℕ) where
   sized-is : (p m : ℕ) → sized C M p m ≡ true → (p ≡ C) × (m ≡ M)
@@ -54,6 +56,11 @@ module _ (C M : ℕ) where
   pub usable-not : (s : State) → sized C M (length (s .payload)) (length (s .map)) ≡ false → usable C M s ≡ false
   unfolding usable
   usable-not s e = ap (λ (b : Bool). b && valid s) e
+
+  -- Bytes after the total length are ignored.
+  pub take-front : (s : State) (l r : List ℕ) → 20 ≤ totalOf l → totalOf l ≤ length l → takeAnswer C M s (take (totalOf l) l ++ r) ≡ takeAnswer C M s l
+  unfolding takeAnswer
+  take-front s l r long there = ap (λ (a : Answer Piece). cond (usable C M s) (mapped (step s) a) (refused 11)) (carried-front C (s .key) l r long there)
 
   -- ---- opening
   opens-by : (k : Key) (d m d′ m′ : List ℕ) (r : Opened) (a : Answer State) → openAnswer C M k (length d) (length m) ≡ a

@@ -1,23 +1,23 @@
 -- What is known of a header that an assembly accepts, and of the piece that its packet carries.
 use mathlib.Core.Path.{_≡_, refl, sym, ap, _∙_}
 use mathlib.Core.Bool.{Bool, true, false, not, _&&_, cond}
-use mathlib.Core.List.{List}
+use mathlib.Core.List.{List, _++_}
 use Prim.Native.Nat.{ℕ, _+_, _-_, _*_, _%_, _≤_}
 use native.Mathlib.Omega.{arith}
-use lib.ListN.{length, length-take, length-drop}
+use lib.ListN.{length, take, length-take, length-drop}
 use lib.Dec.{ltb, eqb}
 use borrow.Author.Tests.{ltb-false, le-ltb, eqb-true, eq-eqb, not-false}
-use Rattle.pkt.specs.Answers.{Answer, refused, gives}
-use Rattle.inspect.specs.Answers.{andThen}
-use Rattle.inspect.specs.Header.{readAnswer, dataOf}
+use Rattle.pkt.specs.Answers.{Answer, refused, gives, andThen, mapped}
+use Rattle.inspect.specs.Header.{totalOf, readAnswer, dataOf}
 use Rattle.inspect.specs.declared.header.IpRead.{IpRead}
 use Rattle.pkt.proofs.Deciding.{past}
-use Rattle.inspect.proofs.Reading.{read-framed}
+use Rattle.inspect.proofs.Numbers.{part-front}
+use Rattle.inspect.proofs.Reading.{read-framed, read-total, read-front}
 use Rattle.assembly.specs.declared.Key.{Key}
 use Rattle.assembly.specs.Piece.{Piece, end, Acceptable}
-use Rattle.assembly.specs.Answers.{mapped}
+use Rattle.assembly.specs.View.{piece}
 use Rattle.assembly.specs.Carried.{keyOf, sameKey, pieceOf, broken, fitAnswer, judgeAnswer, headAnswer, pieceAnswer}
-use Rattle.pkt.proofs.Choice.{and-no, and-both, pick-yes, pick-no}
+use Rattle.pkt.proofs.Choice.{and-no, pick-yes, pick-no}
 
 -- what is asked of a header that was read
 abbrev judged : ℕ → Key → List ℕ → Answer IpRead → Answer IpRead
@@ -86,13 +86,6 @@ acceptable C k l p e = go (headAnswer C k l) refl e
         rw (← z) (record { whole = c .blocks; fits = c .fits })
 
 -- ---- equal keys
-pub same-is : (a b : Key) → sameKey a b ≡ true → a ≡ b
-unfolding sameKey
-same-is a b e =
-    let x = and-both (eqb (a .saddr) (b .saddr) && eqb (a .daddr) (b .daddr)) (eqb (a .id) (b .id)) e in
-    let y = and-both (eqb (a .saddr) (b .saddr)) (eqb (a .daddr) (b .daddr)) (x .0) in
-    λ i. record { saddr = eqb-true (a .saddr) (b .saddr) (y .0) i; daddr = eqb-true (a .daddr) (b .daddr) (y .1) i; id = eqb-true (a .id) (b .id) (x .1) i }
-
 pub is-same : (a b : Key) → a ≡ b → sameKey a b ≡ true
 unfolding sameKey
 is-same a b e =
@@ -110,3 +103,31 @@ accepted C k l h e key ok =
     nine : (b : Bool) → h .mf ≡ b → (b && not (eqb (length (dataOf h l) % 8) 0)) ≡ false
     nine true m = ap not (eq-eqb _ _ (ok .whole m))
     nine false m = refl
+
+-- Bytes after the total length are ignored: the piece is that of the first bytes, as many as the total length says, whatever is behind them.
+pub carried-front : (C : ℕ) (k : Key) (l r : List ℕ) → 20 ≤ totalOf l → totalOf l ≤ length l → pieceAnswer C k (take (totalOf l) l ++ r) ≡ pieceAnswer C k l
+unfolding pieceAnswer headAnswer judgeAnswer fitAnswer
+carried-front C k l r long there = ap (λ (a : Answer IpRead). mapped (pieceOf m) (judged C k m a)) (read-front l r long there) ∙ go (readAnswer l) refl
+  where
+    m : List ℕ
+    m = take (totalOf l) l ++ r
+
+    alike : (h : IpRead) → dataOf h m ≡ dataOf h l → mapped (pieceOf m) (judged C k m (gives h)) ≡ mapped (pieceOf l) (judged C k l (gives h))
+    alike h same =
+        let n : ℕ = length (dataOf h l) in
+        ap (λ (d : List ℕ). mapped (pieceOf m) (judgeAnswer C k (length d) h)) same
+        ∙ tested (sameKey (keyOf h) k) (broken (h .mf) n) (ltb C (8 * h .off + n))
+      where
+        tested : (a b d : Bool)
+            → mapped (pieceOf m) (cond a (cond b (refused 9) (cond d (refused 10) (gives h))) (refused 8))
+            ≡ mapped (pieceOf l) (cond a (cond b (refused 9) (cond d (refused 10) (gives h))) (refused 8))
+        tested false b d = refl
+        tested true true d = refl
+        tested true false true = refl
+        tested true false false = ap (λ (x : List ℕ). gives (piece (h .off) (h .mf) x)) same
+
+    go : (a : Answer IpRead) → readAnswer l ≡ a → mapped (pieceOf m) (judged C k m a) ≡ mapped (pieceOf l) (judged C k l a)
+    go (refused n) e = refl
+    go (gives h) e =
+        let f = read-framed l h e in
+        alike h (part-front (h .start) (h .end - h .start) (totalOf l) l r (omega (arith, read-total l h e)) there)

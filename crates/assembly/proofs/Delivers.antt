@@ -6,7 +6,7 @@ use mathlib.Core.List.{List, [], _∷_, List·Memᴰ, List·Memᴰ·head, List·
 use Prim.Native.Nat.{ℕ, _*_, _≤_}
 use native.Mathlib.Omega.{arith}
 use lib.ListN.{length, length-replicate}
-use Rattle.pkt.specs.Answers.{Answer, refused, gives}
+use Rattle.pkt.specs.Answers.{Answer, refused, gives, mapped}
 use Rattle.assembly.specs.declared.Key.{Key}
 use Rattle.assembly.specs.declared.Rec.{Rec}
 use Rattle.assembly.specs.declared.Opened.the-variants.{Open}
@@ -14,11 +14,11 @@ use Rattle.assembly.specs.declared.Taken.{Taken}
 use Rattle.assembly.specs.Piece.{Piece, Acceptable, _∈_, Contradictory, Same}
 use Rattle.assembly.specs.Assembly.{State, isWaiting, isComplete, isSpoilt, opened, step, run, heldTo, complete, outcome}
 use Rattle.assembly.specs.View.{view, recordOf}
-use Rattle.assembly.specs.Answers.{takenSays, replyOf, mapped, stateAfter, recAfter, payloadAfter, mapAfter}
+use Rattle.assembly.specs.Answers.{takenSays, replyOf, stateAfter, recAfter, payloadAfter, mapAfter}
 use Rattle.assembly.specs.Carried.{pieceAnswer}
 use Rattle.assembly.specs.Calls.{capacity, mapBytes, sized, usable, openAnswer, Opens, takeAnswer, Takes}
 use Rattle.assembly.specs.Demand as demand
-use Rattle.assembly.specs.Packets.{after, takeAll, Accepted, SamePackets, TwoContradict, Delivers}
+use Rattle.assembly.specs.Packets.{after, takeAll, Accepted, SamePieces, TwoContradict, Delivers}
 use Rattle.assembly.proofs.Steps.{view-of}
 use Rattle.assembly.proofs.Pieces.{all-cons}
 use Rattle.assembly.proofs.Describes.{Describes, spoiled, sound, opened-describes, step-describes, run-describes, any-order, spoilt-exactly}
@@ -70,10 +70,10 @@ module _ (C : ℕ) (k : Key) where
       go below (inr m) (gives q) e = List·Memᴰ·tail (below m)
       go below (inr m) (refused n) e = below m
 
-  pub pieces-accepted : (ls : List (List ℕ)) → demand.Accepted C (piecesOf C k ls)
+  pub pieces-accepted : (ls : List (List ℕ)) → demand.AllAcceptable C (piecesOf C k ls)
   pieces-accepted ls p m = let t = piece-from ls p m in acceptable C k (t .0) p (t .1 .carries)
 
-  same-pieces : (ls ms : List (List ℕ)) → SamePackets C k ls ms → Same (piecesOf C k ls) (piecesOf C k ms)
+  same-pieces : (ls ms : List (List ℕ)) → SamePieces C k ls ms → Same (piecesOf C k ls) (piecesOf C k ms)
   same-pieces ls ms s =
       record {
         to = λ p m. let t = piece-from ls p m in let u = s .to (t .0) p (t .1) in piece-in ms (u .0) p (u .1);
@@ -125,26 +125,26 @@ module _ (C M : ℕ) (k : Key) (room : C ≤ 64 * M) where
   )
   sizes s qs (sound n g) = (g .key-is, g .size, g .is-map .size)
 
-  describes-usable : (s : State) (qs : List Piece) → demand.Accepted C qs → Describes k C M s qs → usable C M s ≡ true
+  describes-usable : (s : State) (qs : List Piece) → demand.AllAcceptable C qs → Describes k C M s qs → usable C M s ≡ true
   describes-usable s qs ok d = let z = sizes s qs d in usable-of C M s (z .1) (z .2) (describes-valid k C M s qs ok d)
 
-  answers : (s : State) (qs : List Piece) → demand.Accepted C qs → Describes k C M s qs → (l : List ℕ)
+  answers : (s : State) (qs : List Piece) → demand.AllAcceptable C qs → Describes k C M s qs → (l : List ℕ)
       → takeAnswer C M s l ≡ mapped (step s) (pieceAnswer C k l)
   answers s qs ok d l =
       take-by C M s l (pieceAnswer C k l) (describes-usable s qs ok d) (ap (λ (κ : Key). pieceAnswer C κ l) (sizes s qs d .0))
 
   -- Packets are taken as the pieces of those that are accepted.
-  follow : (ls : List (List ℕ)) (s : State) (qs : List Piece) → demand.Accepted C qs → Describes k C M s qs → takeAll C M s ls ≡ run s (piecesOf C k ls)
+  follow : (ls : List (List ℕ)) (s : State) (qs : List Piece) → demand.AllAcceptable C qs → Describes k C M s qs → takeAll C M s ls ≡ run s (piecesOf C k ls)
   unfolding takeAll after run piecesOf added
   follow [] s qs ok d = refl
   follow (l ∷ ls) s qs ok d = ap (λ (a : Answer State). takeAll C M (stateAfter a s) ls) (answers s qs ok d l) ∙ go (follow ls) (pieceAnswer C k l) refl
     where
-      go : ((s : State) (qs : List Piece) → demand.Accepted C qs → Describes k C M s qs → takeAll C M s ls ≡ run s (piecesOf C k ls))
+      go : ((s : State) (qs : List Piece) → demand.AllAcceptable C qs → Describes k C M s qs → takeAll C M s ls ≡ run s (piecesOf C k ls))
           → (a : Answer Piece) → pieceAnswer C k l ≡ a
           → takeAll C M (stateAfter (mapped (step s) a) s) ls ≡ run s (added a (piecesOf C k ls))
       go below (refused n) e = below s qs ok d
       go below (gives p) e =
-          let ok′ : demand.Accepted C (p ∷ qs) = all-cons {P = λ q. Acceptable C q} (acceptable C k l p e) ok in
+          let ok′ : demand.AllAcceptable C (p ∷ qs) = all-cons {P = λ q. Acceptable C q} (acceptable C k l p e) ok in
           below (step s p) (p ∷ qs) ok′ (step-describes k C M s qs p room ok′ d)
 
   pub taken-is : (ls : List (List ℕ)) → takeAll C M (opened k C M) ls ≡ run (opened k C M) (piecesOf C k ls)
@@ -176,16 +176,7 @@ delivers C M k room =
           (λ e. y .0 (x .0 (sym z ∙ e)), λ t. z ∙ x .1 (y .1 t));
     }
 
--- The answer is spoilt exactly where the record says so, and complete exactly where the total is known and every byte below it held.
-pub says-spoilt : (s : State) → (outcome s ≡ isSpoilt) ↔ (s .spoilt ≡ true)
-unfolding outcome
-says-spoilt s = go (s .spoilt) (heldTo (s .map) (s .total))
-  where
-    go : (b h : Bool) → (cond b isSpoilt (cond h isComplete isWaiting) ≡ isSpoilt) ↔ (b ≡ true)
-    go true h = (λ e. refl, λ e. refl)
-    go false true = (λ e. let z : _≡_ {A = ℕ} 0 1 = cc in absurd (omega arith), λ e. absurd (true≢false (sym e)))
-    go false false = (λ e. let z : _≡_ {A = ℕ} 0 1 = cc in absurd (omega arith), λ e. absurd (true≢false (sym e)))
-
+-- The answer is complete exactly where the total is known and every byte below it held.
 pub says-complete : (s : State) → (outcome s ≡ isComplete) ↔ (complete s ≡ true)
 unfolding outcome complete
 says-complete s = go (s .spoilt) (heldTo (s .map) (s .total))

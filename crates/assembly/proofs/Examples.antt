@@ -1,16 +1,12 @@
 -- Document 01's worked examples of an assembly, by computing at the full size.
 use mathlib.Core.Path.{_≡_, refl}
 use mathlib.Core.List.{List, [], _∷_}
-use Prim.Native.Nat.{ℕ}
 use Rattle.assembly.specs.declared.Key.{Key}
 use Rattle.assembly.specs.Map.{bit, setBit, mark, marked}
 use Rattle.assembly.specs.Piece.{Piece}
 use Rattle.assembly.specs.Assembly.{opened, run, step, clashes, endClash, byteClash, accept, newTotal, newFloor, heldTo, outcome, Outcome, isWaiting, isSpoilt}
 use Rattle.assembly.specs.Calls.{capacity, mapBytes}
-use Rattle.assembly.specs.Cut.{cut}
-
-abbrev pub twenty : List ℕ
-twenty = 1 ∷ 2 ∷ 3 ∷ 4 ∷ 5 ∷ 6 ∷ 7 ∷ 8 ∷ 9 ∷ 10 ∷ 11 ∷ 12 ∷ 13 ∷ 14 ∷ 15 ∷ 16 ∷ 17 ∷ 18 ∷ 19 ∷ 20 ∷ []
+use Rattle.assembly.specs.Cut.{cut, twenty}
 
 abbrev pub after : Key → List Piece → Outcome
 after k ps = outcome (run (opened k capacity mapBytes) ps)

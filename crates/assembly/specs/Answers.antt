@@ -32,11 +32,6 @@ takenSays (taken.Complete r) = gives (reply isComplete r)
 takenSays (taken.Spoilt r) = gives (reply isSpoilt r)
 takenSays (taken.Refused n) = refused n
 
--- what is made of what is given; a refusal stays
-abbrev pub mapped : {A B : Type 0} → (A → B) → Answer A → Answer B
-mapped f (gives a) = gives (f a)
-mapped f (refused n) = refused n
-
 -- what an answer leaves of a state, of the record that the caller has, of a payload buffer and of a map: "A refused call changes no lent
 -- byte, no flow and no assembly." (demand 1)
 abbrev pub stateAfter : Answer State → State → State

@@ -1,5 +1,5 @@
 -- One datagram in progress, and what each piece does to it (document 01, "Assembly").
--- The capacity is the length of the lent buffers, so no definition here names it.
+-- The capacity is the length of the lent buffers: no definition here fixes it.
 use mathlib.Core.Bool.{Bool, true, false, not, _&&_, _||_, cond}
 use mathlib.Core.Option.{Option, none, some}
 use mathlib.Core.List.{List, [], _∷_}
@@ -97,11 +97,12 @@ valid s = recordFits (length (s .payload)) (s .total) (s .floor)
 unfoldable pub complete : State → Bool
 complete s = not (s .spoilt) && heldTo (s .map) (s .total)
 
--- what is held of a complete datagram: the payload's bytes below the total; nothing of any other
+-- the payload's bytes below the total; none where it is not known
 unfoldable pub bytesBelow : Option ℕ → List ℕ → List ℕ
 bytesBelow none d = []
 bytesBelow (some t) d = take t d
 
+-- what is held of a complete datagram; nothing of any other
 unfoldable pub whole : State → List ℕ
 whole s = cond (complete s) (bytesBelow (s .total) (s .payload)) []
 

@@ -1,18 +1,18 @@
 -- The public calls: what each answers, and every lent byte after it, for a payload buffer of C bytes and a map of M.
--- Document 01's sizes stand here and nowhere else.
+-- Document 01's capacity and the map's size stand here.
 use mathlib.Core.Path.{_≡_}
 use mathlib.Core.Bool.{Bool, _&&_, cond}
 use mathlib.Core.List.{List, []}
 use Prim.Native.Nat.{ℕ}
 use lib.ListN.{length}
 use lib.Dec.{eqb}
-use Rattle.pkt.specs.Answers.{Answer, refused, gives}
+use Rattle.pkt.specs.Answers.{Answer, refused, gives, mapped}
 use Rattle.assembly.specs.declared.Key.{Key}
 use Rattle.assembly.specs.declared.Opened.{Opened}
 use Rattle.assembly.specs.declared.Taken.{Taken}
 use Rattle.assembly.specs.Assembly.{State, opened, step, valid, whole}
 use Rattle.assembly.specs.View.{recordOf}
-use Rattle.assembly.specs.Answers.{openedSays, takenSays, replyOf, mapped, payloadAfter, mapAfter}
+use Rattle.assembly.specs.Answers.{openedSays, takenSays, replyOf, payloadAfter, mapAfter}
 use Rattle.assembly.specs.Carried.{pieceAnswer}
 
 -- "a lent payload buffer of exactly 65,515 bytes"

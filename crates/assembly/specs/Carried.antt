@@ -4,13 +4,11 @@ use mathlib.Core.Bool.{Bool, not, _&&_, cond}
 use mathlib.Core.List.{List}
 use lib.ListN.{length}
 use lib.Dec.{ltb, eqb}
-use Rattle.pkt.specs.Answers.{Answer, refused, gives}
-use Rattle.inspect.specs.Answers.{andThen}
+use Rattle.pkt.specs.Answers.{Answer, refused, gives, andThen, mapped}
 use Rattle.inspect.specs.Header.{readAnswer, dataOf}
 use Rattle.inspect.specs.declared.header.IpRead.{IpRead}
 use Rattle.assembly.specs.declared.Key.{Key}
 use Rattle.assembly.specs.Piece.{Piece}
-use Rattle.assembly.specs.Answers.{mapped}
 use Rattle.assembly.specs.View.{piece}
 
 -- "a key: source, destination and identification"

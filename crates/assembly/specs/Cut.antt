@@ -1,7 +1,7 @@
 -- Pieces cut from one payload (document 01, "Pieces").
 use mathlib.Core.Path.{_≡_}
 use mathlib.Core.Bool.{not}
-use mathlib.Core.List.{List}
+use mathlib.Core.List.{List, [], _∷_}
 use Prim.Native.Nat.{ℕ, _+_, _*_, _≤_, _<_, min}
 use lib.ListN.{length}
 use lib.Seq.{slice}
@@ -28,3 +28,7 @@ pub record Part (d : List ℕ) (p : Piece) : Type 0 where
 -- together the pieces hold every place below n
 unfoldable pub Covers : List Piece → ℕ → Type 0
 Covers ps n = (k : ℕ) → k < n → (p : Piece) × (p ∈ ps) × Holds p k
+
+-- the payload of document 01's examples: "n = 20"
+abbrev pub twenty : List ℕ
+twenty = 1 ∷ 2 ∷ 3 ∷ 4 ∷ 5 ∷ 6 ∷ 7 ∷ 8 ∷ 9 ∷ 10 ∷ 11 ∷ 12 ∷ 13 ∷ 14 ∷ 15 ∷ 16 ∷ 17 ∷ 18 ∷ 19 ∷ 20 ∷ []

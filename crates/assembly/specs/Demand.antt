@@ -11,9 +11,9 @@ use Rattle.assembly.specs.Piece.{Piece, Contradict, Acceptable, _∈_, C
 use Rattle.assembly.specs.Assembly.{opened, run, complete, valid, whole}
 use Rattle.assembly.specs.Cut.{cut, Part, Covers}
 
--- every one of ps is accepted
-abbrev pub Accepted : ℕ → List Piece → Type 0
-Accepted C ps = (p : Piece) → p ∈ ps → Acceptable C p
+-- each of ps is acceptable
+abbrev pub AllAcceptable : ℕ → List Piece → Type 0
+AllAcceptable C ps = (p : Piece) → p ∈ ps → Acceptable C p
 
 -- every one of ps was built from d, and none asked for past its end
 abbrev pub Built : List ℕ → List Piece → Type 0
@@ -21,11 +21,11 @@ Built d ps = (p : Piece) → p ∈ ps → Part d p
 
 pub record Assembles (k : Key) (C M : ℕ) : Type 0 where
   -- "The same accepted pieces, in any order and with any repeats, end in the same state,
-  pub one-end : (ps qs : List Piece) → Accepted C ps → Same ps qs → run (opened k C M) ps ≡ run (opened k C M) qs
+  pub one-end : (ps qs : List Piece) → AllAcceptable C ps → Same ps qs → run (opened k C M) ps ≡ run (opened k C M) qs
   -- spoilt exactly when two of them contradict each other
-  pub spoilt-when : (ps : List Piece) → Accepted C ps → (run (opened k C M) ps .spoilt ≡ true) ↔ Contradictory ps
+  pub spoilt-when : (ps : List Piece) → AllAcceptable C ps → (run (opened k C M) ps .spoilt ≡ true) ↔ Contradictory ps
   -- If all were built from one payload .., none asked for past its end, all are accepted
-  pub taken : (d : List ℕ) → length d ≤ C → (ps : List Piece) → Built d ps → Accepted C ps
+  pub taken : (d : List ℕ) → length d ≤ C → (ps : List Piece) → Built d ps → AllAcceptable C ps
   -- and the state is never spoilt [at the end or on the way].
   pub never-spoilt : (d : List ℕ) → length d ≤ C → (ps later : List Piece) → Built d (ps ++ later) → run (opened k C M) ps .spoilt ≡ false
   -- It is complete exactly when at least one was handed in and together they cover the payload,
@@ -39,6 +39,6 @@ pub record Assembles (k : Key) (C M : ℕ) : Type 0 where
   pub past-end : (d : List ℕ) (off len : ℕ) → length d < 8 * off → (p : Piece) → Part d p → p .mf ≡ false → Contradict (cut d off len) p
   -- .. so with both among the accepted pieces, whichever came first, the state is spoilt
   pub past-end-spoils : (d : List ℕ) (off len : ℕ) → length d < 8 * off → (p : Piece) → Part d p → p .mf ≡ false
-      → (ps : List Piece) → Accepted C ps → cut d off len ∈ ps → p ∈ ps → run (opened k C M) ps .spoilt ≡ true
+      → (ps : List Piece) → AllAcceptable C ps → cut d off len ∈ ps → p ∈ ps → run (opened k C M) ps .spoilt ≡ true
   -- and no state that accepted pieces lead to is refused by 11
-  pub stays-valid : (ps : List Piece) → Accepted C ps → valid (run (opened k C M) ps) ≡ true
+  pub stays-valid : (ps : List Piece) → AllAcceptable C ps → valid (run (opened k C M) ps) ≡ true

@@ -4,7 +4,7 @@ use mathlib.Core.Logic.{_↔_}
 use mathlib.Core.Bool.{true}
 use mathlib.Core.List.{List, [], _∷_, List·Memᴰ}
 use Prim.Native.Nat.{ℕ}
-use Rattle.pkt.specs.Answers.{gives}
+use Rattle.pkt.specs.Answers.{gives, mapped}
 use Rattle.assembly.specs.declared.Key.{Key}
 use Rattle.assembly.specs.declared.Rec.{Rec}
 use Rattle.assembly.specs.declared.Opened.the-variants.{Open}
@@ -12,7 +12,7 @@ use Rattle.assembly.specs.declared.Taken.{Taken}
 use Rattle.assembly.specs.Piece.{Piece, Contradict}
 use Rattle.assembly.specs.Assembly.{State, opened, step}
 use Rattle.assembly.specs.View.{view}
-use Rattle.assembly.specs.Answers.{takenSays, mapped, stateAfter, recAfter}
+use Rattle.assembly.specs.Answers.{takenSays, stateAfter, recAfter}
 use Rattle.assembly.specs.Carried.{pieceAnswer}
 use Rattle.assembly.specs.Calls.{Opens, takeAnswer, Takes}
 
@@ -32,7 +32,7 @@ pub record Accepted (C : ℕ) (k : Key) (ls : List (List ℕ)) (l : List ℕ) (p
 
 -- "The same accepted pieces, in any order and with any repeats": a piece that a packet of the one list carries, one of the other carries too.
 -- Refused packets do not count, nor does what a packet says besides its piece.
-pub record SamePackets (C : ℕ) (k : Key) (ls ms : List (List ℕ)) : Type 0 where
+pub record SamePieces (C : ℕ) (k : Key) (ls ms : List (List ℕ)) : Type 0 where
   pub to : (l : List ℕ) (p : Piece) → Accepted C k ls l p → (m : List ℕ) × Accepted C k ms m p
   pub from : (m : List ℕ) (p : Piece) → Accepted C k ms m p → (l : List ℕ) × Accepted C k ls l p
 
@@ -55,6 +55,6 @@ pub record Delivers (C M : ℕ) (k : Key) : Type 0 where
   pub answers : (ls : List (List ℕ)) (l : List ℕ)
       → takeAnswer C M (takeAll C M (opened k C M) ls) l ≡ mapped (step (takeAll C M (opened k C M) ls)) (pieceAnswer C k l)
   -- "The same accepted pieces, in any order and with any repeats, end in the same state,
-  pub one-end : (ls ms : List (List ℕ)) → SamePackets C k ls ms → takeAll C M (opened k C M) ls ≡ takeAll C M (opened k C M) ms
+  pub one-end : (ls ms : List (List ℕ)) → SamePieces C k ls ms → takeAll C M (opened k C M) ls ≡ takeAll C M (opened k C M) ms
   -- spoilt exactly when two of them contradict each other by document 01."
   pub spoilt-when : (ls : List (List ℕ)) → (takeAll C M (opened k C M) ls .spoilt ≡ true) ↔ TwoContradict C k ls

@@ -19,7 +19,7 @@ pub(crate) fn fill(b: &mut [u8], from: usize, to: usize, v: u8)
 }
 
 // Zeroes a buffer.
-pub fn clear(b: &mut [u8])
+pub(crate) fn clear(b: &mut [u8])
     ensures { λ _. ⌜ now (b .exit) ≡ zeros (length (now (b .entry))) ⌝ }
 {
     let n = b.len();

@@ -65,7 +65,7 @@ fn judge(cap: usize, key: Key, n: usize, h: IpRead) -> Seen
 }
 
 // The header of a packet that an assembly with this key, and room for `cap` bytes, accepts.
-pub fn read(cap: usize, key: Key, packet: &[u8]) -> Seen
+pub(crate) fn read(cap: usize, key: Key, packet: &[u8]) -> Seen
     ensures { λ r. ⌜ readSays r ≡ headAnswer cap key (now (packet .entry)) ⌝ }
 {
     match header::read(packet) {

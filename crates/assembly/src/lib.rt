@@ -12,7 +12,7 @@ ghost use mathlib.Core.Path.{_≡_};
 ghost use Rattle.assembly.specs.View.{view};
 ghost use Rattle.assembly.specs.Calls.{capacity, mapBytes, sized, usable, Opens, Takes, shown};
 
-// The sizes of the payload buffer and of the map: here and nowhere else.
+// The sizes of the payload buffer and of the map.
 const CAPACITY: usize = 65515;
 
 const MAP_BYTES: usize = 1024;

@@ -6,7 +6,7 @@ ghost use Rattle.assembly.specs.Assembly.{endClash, newFloor, newTotal, 
 ghost use Rattle.assembly.specs.View.{totalOf};
 
 // Whether the end contradicts the total or the floor.
-pub fn end_clash(total: Total, floor: usize, mf: bool, end: usize) -> bool
+pub(crate) fn end_clash(total: Total, floor: usize, mf: bool, end: usize) -> bool
     ensures { λ r. ⌜ r ≡ endClash (totalOf total) floor mf end ⌝ }
 {
     match total {
@@ -35,7 +35,7 @@ pub(crate) fn new_floor(mf: bool, floor: usize, end: usize) -> usize
 }
 
 // The total after the piece.
-pub fn new_total(mf: bool, total: Total, end: usize) -> Total
+pub(crate) fn new_total(mf: bool, total: Total, end: usize) -> Total
     ensures { λ r. ⌜ totalOf r ≡ newTotal mf (totalOf total) end ⌝ }
 {
     if mf {

@@ -17,7 +17,7 @@ ghost use Rattle.pkt.specs.Answers.{gives};
 ghost use Rattle.assembly.specs.View.{totalOf, view, piece};
 ghost use Rattle.assembly.specs.Answers.{takenSays, reply, Moved};
 
-// The blocks that n bytes from a block's first on lie in.
+// How many blocks n bytes from a block's first on lie in.
 fn blocks(n: usize) -> usize
     ensures { λ r. ⌜ r ≡ (n + 7) / 8 ⌝ }
 {
@@ -25,7 +25,7 @@ fn blocks(n: usize) -> usize
 }
 
 // Zeroes all but the key.
-pub fn wipe(payload: &mut [u8], map: &mut [u8], key: Key, spoilt: bool) -> Rec
+pub(crate) fn wipe(payload: &mut [u8], map: &mut [u8], key: Key, spoilt: bool) -> Rec
     ensures { λ r. ⌜ view r (now (payload .exit)) (now (map .exit)) ≡ cleared key (length (now (payload .entry))) (length (now (map .entry))) spoilt ⌝ }
 {
     buffer::clear(payload);

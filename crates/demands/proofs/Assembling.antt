@@ -7,9 +7,8 @@ use Prim.Native.Nat.{ℕ, zero, suc, _+_, _-_, _*_, _≤_, _<_, min}
 use native.Mathlib.Omega.{arith}
 use lib.ListN.{length, take, drop, length-append}
 use lib.Seq.{slice, length-slice, take-nil, take-at, drop-at, take-length}
-use lib.Dec.{eqb}
 use borrow.Author.Tests.{eq-eqb}
-use Rattle.pkt.specs.Answers.{Answer, gives}
+use Rattle.pkt.specs.Answers.{Answer, gives, mapped}
 use Rattle.pkt.specs.Rfc791.{ipHeader}
 use Rattle.pkt.specs.declared.ipv4.«ip_hdr».{«ip_hdr»}
 use Rattle.pkt.proofs.Headers.{ip-length}
@@ -19,14 +18,13 @@ use Rattle.ezpkt.specs.declared.ip4.Template.{Template}
 use Rattle.ezpkt.specs.declared.build.IpPiece.{IpPiece}
 use Rattle.ezpkt.proofs.Sizes.{between-length}
 use Rattle.inspect.specs.Header.{readAnswer, dataOf}
-use Rattle.inspect.specs.Encoded.{readOf}
-use Rattle.inspect.proofs.Decoding.{Fit, decoded}
+use Rattle.inspect.specs.Encoded.{readOf, Fit}
+use Rattle.inspect.proofs.Decoding.{decoded}
 use Rattle.assembly.specs.declared.Key.{Key}
 use Rattle.assembly.specs.Piece.{Piece, end, Holds, Acceptable, _∈_}
 use Rattle.assembly.specs.Assembly.{State, opened, step, run, complete, whole}
 use Rattle.assembly.specs.View.{piece}
 use Rattle.assembly.specs.Cut.{cut, Part, Covers}
-use Rattle.assembly.specs.Answers.{mapped}
 use Rattle.assembly.specs.Carried.{pieceOf, pieceAnswer}
 use Rattle.assembly.specs.Calls.{capacity, mapBytes}
 use Rattle.assembly.specs.Demand as demand
@@ -36,6 +34,7 @@ use Rattle.assembly.proofs.Assembles.{assembles-here}
 use Rattle.assembly.proofs.Calls.{shown-yes}
 use Rattle.assembly.proofs.Delivers.{piecesOf, piece-from, piece-in, taken-is, taken-usable, delivers-here}
 use Rattle.demands.specs.Ranges.{Fitting}
+use Rattle.demands.specs.Checked.{more}
 use Rattle.demands.specs.Assembling.{keyOf, Asked, by-fragment, by-tail, by-datagram, PastEnd, AllBuilt, Reached, Cover, taken, Reassembles}
 use Rattle.demands.proofs.Pieces.{flags-more, flags-offset, piece-fit}
 
@@ -58,14 +57,14 @@ module _ (t : Template) (d : List ℕ) (fits : Fitting t) (few : length d ≤ ca
     asked : IpPiece
     asked = record { template = t; off = off; len = len }
 
-    more : Bool
-    more = not (eqb (endOf asked (length d)) (length d))
+    m : Bool
+    m = more asked (length d)
 
     body : List ℕ
     body = between (startOf asked (length d)) (endOf asked (length d)) d
 
     header : «ip_hdr»
-    header = pieceIp asked (20 + (endOf asked (length d) - startOf asked (length d))) more
+    header = pieceIp asked (20 + (endOf asked (length d) - startOf asked (length d))) m
 
     body-length : length body ≡ endOf asked (length d) - startOf asked (length d)
     unfolding asked body
@@ -73,13 +72,13 @@ module _ (t : Template) (d : List ℕ) (fits : Fitting t) (few : length d ≤ ca
 
     fit : Fit header
     unfolding asked header
-    fit = piece-fit asked (20 + (endOf asked (length d) - startOf asked (length d))) more fits low (omega arith)
+    fit = piece-fit asked (20 + (endOf asked (length d) - startOf asked (length d))) m fits low (omega arith)
 
     wire : List ℕ
     wire = ipHeader header ++ (body ++ rest)
 
     wire-is : packetOf (fragmentOf t off len) d ++ rest ≡ wire
-    unfolding piecePacket asked more body header wire
+    unfolding piecePacket asked m body header wire
     wire-is = append-assoc (ipHeader header) body rest
 
     read-back : readAnswer wire ≡ gives (readOf header)
@@ -88,7 +87,7 @@ module _ (t : Template) (d : List ℕ) (fits : Fitting t) (few : length d ≤ ca
 
     -- what is read is the cut
     piece-is : pieceOf wire (readOf header) ≡ cut d off len
-    unfolding asked more body header wire readOf cut
+    unfolding asked m body header wire readOf cut
     piece-is =
         let n : ℕ = endOf asked (length d) - startOf asked (length d) in
         let size : 20 + n - 20 ≡ length body = omega (arith, body-length) in
@@ -97,7 +96,7 @@ module _ (t : Template) (d : List ℕ) (fits : Fitting t) (few : length d ≤ ca
         ∙ take-at body rest (20 + n - 20) (sym size)
         ∙ between-slice (startOf asked (length d)) (endOf asked (length d)) d
         in
-        λ i. piece (flags-offset asked more low i) (flags-more asked more low i) (held i)
+        λ i. piece (flags-offset asked m low i) (flags-more asked m low i) (held i)
 
     -- A piece that ends within the capacity is accepted, and carries the cut.
     carried : end (cut d off len) ≤ capacity → pieceAnswer capacity (keyOf t) (packetOf (fragmentOf t off len) d ++ rest) ≡ gives (cut d off len)

@@ -17,7 +17,7 @@ use Rattle.pkt.specs.declared.ipv4.«ip_hdr».{«ip_hdr»}
 use Rattle.pkt.specs.declared.ipv4.«udp_hdr».{«udp_hdr»}
 use Rattle.pkt.specs.declared.ipv4.«icmp_hdr».{«icmp_hdr»}
 use Rattle.pkt.specs.declared.ipv4.«icmp_echo_hdr».{«icmp_echo_hdr»}
-use Rattle.pkt.proofs.Bytes.{Bytes}
+use Rattle.pkt.specs.Fields.{Bytes}
 use Rattle.pkt.proofs.Choice.{or-no}
 use Rattle.pkt.proofs.Headers.{tcp-length, udp-length, echo-length}
 use Rattle.ezpkt.specs.Build.{flowIp, tcpHdr, tcpPacket, udpHdr, udpField, udpPacket, echoType, echoPacket, startOf, endOf, pieceIp, between, piecePacket, packetOf, answerOf, Answered}
@@ -32,8 +32,8 @@ use Rattle.ezpkt.proofs.Deciding.{sized-fits, piece-fits}
 use Rattle.ezpkt.proofs.Sizes.{between-length}
 use Rattle.inspect.specs.Answers.{Verdict, good}
 use Rattle.inspect.specs.Check.{isPiece, partAnswer, checkAnswer}
-use Rattle.inspect.specs.Encoded.{readOf}
-use Rattle.inspect.proofs.Decoding.{Fit, check-encoded}
+use Rattle.inspect.specs.Encoded.{readOf, Fit}
+use Rattle.inspect.proofs.Decoding.{check-encoded}
 use Rattle.inspect.proofs.Sent.{piece-refused, tcp-good, udp-good, udp-bare, echo-good}
 use Rattle.demands.specs.Ranges.{Fitting, Between, InRange}
 use Rattle.demands.specs.Checked.{more, udpVerdict, checkOf}

@@ -4,13 +4,13 @@ use mathlib.Core.Bool.{true}
 use mathlib.Core.List.{List, [], _∷_, _++_}
 use Prim.Native.Nat.{ℕ}
 use native.Mathlib.Omega.{arith}
-use Rattle.pkt.specs.Answers.{Answer, refused, gives}
+use Rattle.pkt.specs.Answers.{Answer, refused, gives, mapped}
 use Rattle.assembly.specs.declared.Key.{Key}
 use Rattle.assembly.specs.declared.Rec.{Rec}
 use Rattle.assembly.specs.declared.Taken.the-variants.{Complete}
 use Rattle.assembly.specs.Assembly.{State, opened, complete, isComplete}
 use Rattle.assembly.specs.View.{view, recordOf}
-use Rattle.assembly.specs.Answers.{Reply, reply, replyOf, mapped, payloadAfter, mapAfter}
+use Rattle.assembly.specs.Answers.{Reply, reply, replyOf, payloadAfter, mapAfter}
 use Rattle.assembly.specs.Calls.{capacity, mapBytes, takeAnswer, Takes}
 use Rattle.assembly.specs.Packets.{after, takeAll}
 use Rattle.assembly.proofs.Steps.{view-of, record-of}

@@ -5,7 +5,7 @@ use mathlib.Core.List.{List, [], _∷_}
 use Prim.Native.Nat.{ℕ, _+_, _*_}
 use lib.Dec.{ltb, eqb}
 use lib.ListN.{length, take}
-use Rattle.pkt.specs.Answers.{Answer, refused, gives}
+use Rattle.pkt.specs.Answers.{Answer, refused, gives, andThen, mapped}
 use Rattle.ezpkt.specs.Build.{sizeOf, sizedAnswer, answerOf}
 use Rattle.ezpkt.specs.Icmp4 as icmp
 use Rattle.tcp4.specs.Tcp4 as tcp
@@ -13,15 +13,15 @@ use Rattle.ezpkt.specs.declared.build.Request.{Request}
 use Rattle.ezpkt.specs.declared.build.Request.the-variants.{Tcp, Udp, Echo, Piece}
 use Rattle.ezpkt.specs.declared.icmp4.IcmpFlow.{IcmpFlow}
 use Rattle.tcp4.specs.declared.TcpFlow.{TcpFlow}
-use Rattle.inspect.specs.Answers.{andThen, good}
+use Rattle.inspect.specs.Answers.{good}
 use Rattle.inspect.specs.Header.{fieldAt, headerOf, frameAnswer, verifies, readAnswer, dataOf}
-use Rattle.inspect.specs.Check.{isPiece, isOther, isCut, wholeAnswer, between, verdictOf, checkAnswer}
+use Rattle.inspect.specs.Check.{isPiece, isOther, isCut, wholeAnswer, verifiesBehindPseudo, verdictOf, checkAnswer}
 use Rattle.inspect.specs.declared.header.IpRead.{IpRead}
 use Rattle.inspect.specs.declared.check.Kind.{Kind}
 use Rattle.inspect.specs.declared.check.Kind.the-variants as kind
 use Rattle.assembly.specs.Assembly.{State, opened, step}
 use Rattle.assembly.specs.View.{recordOf}
-use Rattle.assembly.specs.Answers.{replyOf, mapped}
+use Rattle.assembly.specs.Answers.{replyOf}
 use Rattle.assembly.specs.Carried.{keyOf, sameKey, broken, fitAnswer, judgeAnswer, headAnswer, pieceOf, pieceAnswer}
 use Rattle.assembly.specs.Calls.{sized, usable, openAnswer, takeAnswer}
 use Rattle.packet.specs.Headroom.{mostEnd, valid}
@@ -91,8 +91,8 @@ check-in l =
     ns = 4 ∷ 5 ∷ 6 ∷ 7 ∷ 13 ∷ 12 ∷ 14 ∷ 15 ∷ []
 
     summed : (k : Kind) (h : IpRead) (d : List ℕ) → Among ns (verdictOf k h d)
-    summed kind.Tcp h d = unless ns (between h 6 d) 15 _ refl (accepted good)
-    summed kind.Udp h d = unless ns (between h 17 d) 15 _ refl (accepted good)
+    summed kind.Tcp h d = unless ns (verifiesBehindPseudo h 6 d) 15 _ refl (accepted good)
+    summed kind.Udp h d = unless ns (verifiesBehindPseudo h 17 d) 15 _ refl (accepted good)
     summed kind.Bare h d = accepted _
     summed kind.Icmp h d = unless ns (verifies d) 15 _ refl (accepted good)
 

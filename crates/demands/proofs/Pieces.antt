@@ -1,6 +1,6 @@
 -- The header of a piece: its numbers fit their fields, and MF and the offset are read back.
 use mathlib.Core.Path.{_≡_, ap₂}
-use mathlib.Core.Bool.{Bool, true, false, not, _||_}
+use mathlib.Core.Bool.{Bool, true, false}
 use Prim.Native.Nat.{ℕ, _+_, _*_, _/_, _%_, _≤_, _<_}
 use native.Mathlib.Omega.{arith}
 use lib.Dec.{eqb}
@@ -8,9 +8,8 @@ use borrow.Author.Tests.{eq-eqb, ne-eqb}
 use Rattle.ezpkt.specs.Build.{bit, pieceFlags, pieceIp}
 use Rattle.ezpkt.specs.declared.build.IpPiece.{IpPiece}
 use Rattle.inspect.specs.Header.{hasBit}
-use Rattle.inspect.specs.Check.{isPiece}
-use Rattle.inspect.specs.Encoded.{readOf}
-use Rattle.inspect.proofs.Decoding.{Fit}
+use Rattle.inspect.specs.Check.{ofMany, isPiece}
+use Rattle.inspect.specs.Encoded.{readOf, Fit}
 use Rattle.demands.specs.Ranges.{Fitting}
 
 ones : Bool → ℕ
@@ -57,6 +56,6 @@ piece-fit q size m fits off few =
       daddr = fits .daddr;
     }
 
-pub piece-read : (q : IpPiece) (size : ℕ) (m : Bool) → q .off ≤ 8191 → isPiece (readOf (pieceIp q size m)) ≡ m || not (eqb (q .off) 0)
+pub piece-read : (q : IpPiece) (size : ℕ) (m : Bool) → q .off ≤ 8191 → isPiece (readOf (pieceIp q size m)) ≡ ofMany m (q .off)
 unfolding readOf
-piece-read q size m h = ap₂ (λ (a : Bool) (b : ℕ). a || not (eqb b 0)) (flags-more q m h) (flags-offset q m h)
+piece-read q size m h = ap₂ ofMany (flags-more q m h) (flags-offset q m h)

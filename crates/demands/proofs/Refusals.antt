@@ -4,7 +4,7 @@ use mathlib.Core.List.{List}
 use Prim.Native.Nat.{ℕ}
 use native.Mathlib.Omega.{arith}
 use lib.ListN.{length}
-use Rattle.pkt.specs.Answers.{Answer, refused, gives}
+use Rattle.pkt.specs.Answers.{Answer, refused, gives, mapped}
 use Rattle.pkt.specs.Written.{leaves}
 use Rattle.ezpkt.specs.Build.{answerOf, packetOf}
 use Rattle.ezpkt.specs.Icmp4.{withFlow}
@@ -12,7 +12,7 @@ use Rattle.ezpkt.specs.declared.icmp4.IcmpFlow.{IcmpFlow}
 use Rattle.packet.proofs.Answers.{kept}
 use Rattle.assembly.specs.Assembly.{State}
 use Rattle.assembly.specs.View.{view, recordOf}
-use Rattle.assembly.specs.Answers.{replyOf, mapped, payloadAfter, mapAfter}
+use Rattle.assembly.specs.Answers.{replyOf, payloadAfter, mapAfter}
 use Rattle.assembly.specs.Calls.{openAnswer, takeAnswer}
 use Rattle.demands.specs.Refusals.{RefusedKeep}
 

@@ -10,7 +10,7 @@ use borrow.Author.Tests.{eq-eqb}
 use Rattle.pkt.specs.Answers.{gives}
 use Rattle.pkt.specs.Rfc768.{udpHeader, udpChecksum}
 use Rattle.pkt.specs.Rfc792.{icmpNew, echoNew}
-use Rattle.pkt.proofs.Bytes.{Bytes}
+use Rattle.pkt.specs.Fields.{Bytes}
 use Rattle.pkt.proofs.Choice.{pick-no}
 use Rattle.ezpkt.specs.Build.{flowIp, tcpHdr, tcpPacket, udpHdr, udpPacket, echoType, echoPacket, pieceIp, packetOf, answerOf, Answered}
 use Rattle.ezpkt.specs.Ip4.{datagramOf}

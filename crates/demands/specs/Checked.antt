@@ -1,5 +1,5 @@
 -- What the check owes a packet that is built.
-use mathlib.Core.Bool.{Bool, false, not, _||_, cond}
+use mathlib.Core.Bool.{Bool, false, not, cond}
 use mathlib.Core.List.{List}
 use Prim.Native.Nat.{ℕ, _+_, _%_}
 use lib.ListN.{length}
@@ -11,12 +11,12 @@ use Rattle.ezpkt.specs.declared.build.Request.{Request}
 use Rattle.ezpkt.specs.declared.build.Request.the-variants.{Tcp, Udp, Echo, Piece}
 use Rattle.inspect.specs.Answers.{Verdict, good, noChecksum}
 use Rattle.inspect.specs.Header.{hasBit}
-use Rattle.inspect.specs.Check.{partAnswer}
+use Rattle.inspect.specs.Check.{ofMany, partAnswer}
 use Rattle.inspect.specs.Encoded.{readOf}
 
 -- MF set or offset not 0, in the whole 16-bit field
 abbrev pub pieceField : ℕ → Bool
-pieceField x = hasBit 0x2000 x || not (eqb (x % 0x2000) 0)
+pieceField x = ofMany (hasBit 0x2000 x) (x % 0x2000)
 
 -- "MF is set exactly if that end is not n"
 abbrev pub more : IpPiece → ℕ → Bool
@@ -32,4 +32,4 @@ abbrev pub checkOf : Request → List ℕ → Answer Verdict
 checkOf (Tcp t) p = cond (pieceField (t .«frag_off»)) (refused 13) (gives good)
 checkOf (Udp u) p = cond (pieceField (u .«frag_off»)) (refused 13) (gives (udpVerdict (u .csum)))
 checkOf (Echo e) p = gives good
-checkOf (Piece q) p = cond (more q (length p) || not (eqb (q .off) 0)) (refused 13) (partAnswer (readOf (pieceIp q (20 + length p) false)) p)
+checkOf (Piece q) p = cond (ofMany (more q (length p)) (q .off)) (refused 13) (partAnswer (readOf (pieceIp q (20 + length p) false)) p)

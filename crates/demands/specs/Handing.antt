@@ -11,7 +11,7 @@ use Rattle.assembly.specs.declared.Taken.{Taken}
 use Rattle.assembly.specs.View.{view}
 use Rattle.assembly.specs.Answers.{takenSays, recAfter}
 use Rattle.assembly.specs.Calls.{capacity, mapBytes, Opens, Takes}
-use Rattle.assembly.specs.Packets.{SamePackets, TwoContradict}
+use Rattle.assembly.specs.Packets.{SamePieces, TwoContradict}
 
 -- An assembly's record and buffers after it was opened for k and the packets ls were handed in, one call of `take` after the other. A call
 -- that is refused hands no record back, and the caller goes on with its own.
@@ -23,7 +23,7 @@ pub data Handed (k : Key) : List (List ℕ) → Rec → List ℕ → List ℕ �
 pub record InAnyOrder (k : Key) : Type 0 where
   -- "Start from a newly opened assembly. The same accepted pieces, in any order and with any repeats, end in the same state": the record
   -- and every byte of both buffers,
-  pub one-end : (ls ms : List (List ℕ)) (r s : Rec) (d m d′ m′ : List ℕ) → Handed k ls r d m → Handed k ms s d′ m′ → SamePackets capacity k ls ms
+  pub one-end : (ls ms : List (List ℕ)) (r s : Rec) (d m d′ m′ : List ℕ) → Handed k ls r d m → Handed k ms s d′ m′ → SamePieces capacity k ls ms
       → (r ≡ s) × (d ≡ d′) × (m ≡ m′)
   -- "spoilt exactly when two of them contradict each other by document 01."
   pub spoilt-when : (ls : List (List ℕ)) (r : Rec) (d m : List ℕ) → Handed k ls r d m → (r .spoilt ≡ true) ↔ TwoContradict capacity k ls

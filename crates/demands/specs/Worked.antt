@@ -4,7 +4,7 @@ use mathlib.Core.Bool.{true, false}
 use mathlib.Core.List.{List, [], _∷_}
 use Prim.Native.Nat.{ℕ, _+_}
 use lib.ListN.{length, drop}
-use Rattle.pkt.specs.Answers.{gives, csumAnswer}
+use Rattle.pkt.specs.Answers.{gives, csumAnswer, mapped}
 use Rattle.ezpkt.specs.Build.{packetOf}
 use Rattle.ezpkt.specs.Ip4.{fragmentOf}
 use Rattle.tcp4.specs.Tcp4.{newFlow, emit, opening, segmentOf, sentBytes, sendAnswer}
@@ -15,7 +15,7 @@ use Rattle.tcp4.specs.declared.TcpFlow.{TcpFlow}
 use Rattle.tcp4.specs.declared.Side.the-variants.{Client}
 use Rattle.inspect.specs.Header.{fieldAt}
 use Rattle.assembly.specs.Assembly.{opened, outcome, isComplete}
-use Rattle.assembly.specs.Answers.{mapped}
+use Rattle.assembly.specs.Cut.{twenty}
 use Rattle.assembly.specs.Calls.{capacity, mapBytes, takeAnswer}
 use Rattle.demands.specs.Assembling.{keyOf}
 
@@ -68,9 +68,6 @@ rolled = let f : TcpFlow = flowAt 4294967294 5000 in flowBy (sendAnswer f (emit 
 
 abbrev pub template : Template
 template = record { tos = 0; id = 7; df = false; evil = false; ttl = 64; protocol = 17; saddr = client; daddr = server }
-
-abbrev pub twenty : List ℕ
-twenty = 1 ∷ 2 ∷ 3 ∷ 4 ∷ 5 ∷ 6 ∷ 7 ∷ 8 ∷ 9 ∷ 10 ∷ 11 ∷ 12 ∷ 13 ∷ 14 ∷ 15 ∷ 16 ∷ 17 ∷ 18 ∷ 19 ∷ 20 ∷ []
 
 -- the piece (off, len) of a payload
 unfoldable pub pieceAt : List ℕ → ℕ → ℕ → List ℕ

@@ -7,18 +7,14 @@ use mathlib.Core.List.{List, _++_}
 use lib.ListN.{length, take}
 use lib.Dec.{ltb, eqb}
 use borrow.Author.Tests.{ltb-false, le-ltb}
-use Rattle.pkt.specs.Answers.{Answer, refused, gives}
-use Rattle.inspect.specs.Answers.{andThen}
+use Rattle.pkt.specs.Answers.{Answer, refused, gives, andThen}
 use Rattle.inspect.specs.Header.{fieldAt, totalOf, readAnswer, dataOf}
 use Rattle.inspect.specs.Check.{isCut, sumsAnswer, verdictOf, partAnswer, checkAnswer}
 use Rattle.inspect.specs.declared.header.IpRead.{IpRead}
 use Rattle.inspect.specs.declared.check.Kind.{Kind}
+use Rattle.pkt.proofs.Choice.{or-no}
 use Rattle.inspect.proofs.Numbers.{part-front}
 use Rattle.inspect.proofs.Reading.{read-framed, read-total, read-front}
-
-or-false : (a b : Bool) → a || b ≡ false → a ≡ false
-or-false true b e = e
-or-false false b e = refl
 
 -- A part that is not cut has 8 bytes.
 pub not-cut : (p : ℕ) (d : List ℕ) → isCut p d ≡ false → 8 ≤ length d
@@ -27,8 +23,8 @@ not-cut p d e = go (eqb p 6) (eqb p 17) e
     go : (t u : Bool)
         → cond t (ltb (length d) 20 || not (eqb (fieldAt d 12 1) 0x50)) (cond u (ltb (length d) 8 || not (eqb (fieldAt d 4 2) (length d))) (ltb (length d) 8)) ≡ false
         → 8 ≤ length d
-    go true u q = let h = ltb-false (length d) 20 (or-false (ltb (length d) 20) _ q) in omega arith
-    go false true q = ltb-false (length d) 8 (or-false (ltb (length d) 8) _ q)
+    go true u q = let h = ltb-false (length d) 20 (or-no (ltb (length d) 20) _ q .0) in omega arith
+    go false true q = ltb-false (length d) 8 (or-no (ltb (length d) 8) _ q .0)
     go false false q = ltb-false (length d) 8 q
 
 -- A part of no more bytes than a packet can have is summed.

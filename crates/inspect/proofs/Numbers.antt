@@ -7,8 +7,7 @@ use native.Mathlib.Numerals.{add-one, add-two}
 use mathlib.Core.List.{List, [], _∷_, _++_}
 use lib.ListN.{length, getD, take, drop, length-drop, take-append-drop}
 use lib.Seq.{drop-cons, getD-drop, length-take-le, take-append-le, drop-append-le}
-use Rattle.pkt.specs.Fields.{value}
-use Rattle.pkt.proofs.Bytes.{Bytes}
+use Rattle.pkt.specs.Fields.{value, Bytes}
 use Rattle.inspect.specs.Header.{fieldAt}
 
 -- one byte, also past the end

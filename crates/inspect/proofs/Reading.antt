@@ -4,14 +4,13 @@ use mathlib.Core.Bool.{Bool, true, not, cond}
 use Prim.Native.Nat.{ℕ, _+_, _-_, _≤_}
 use native.Mathlib.Omega.{arith}
 use mathlib.Core.List.{List, _++_}
-use lib.ListN.{length, take, length-append, length-take, length-drop}
+use lib.ListN.{length, take, length-append, length-take}
 use lib.Dec.{ltb, eqb}
 use borrow.Author.Tests.{le-ltb, ltb-false, not-false, eqb-true}
-use Rattle.pkt.specs.Answers.{Answer, refused, gives}
-use Rattle.inspect.specs.Answers.{andThen}
-use Rattle.inspect.specs.Header.{fieldAt, headerOf, totalOf, frameAnswer, verifies, readAnswer, dataOf}
+use Rattle.pkt.specs.Answers.{Answer, refused, gives, andThen}
+use Rattle.inspect.specs.Header.{fieldAt, headerOf, totalOf, frameAnswer, verifies, readAnswer}
 use Rattle.inspect.specs.declared.header.IpRead.{IpRead}
-use Rattle.pkt.proofs.Bytes.{Bytes}
+use Rattle.pkt.specs.Fields.{Bytes}
 use Rattle.pkt.proofs.Deciding.{past, held}
 use Rattle.inspect.proofs.Numbers.{field-below, part-front, field-front}
 
@@ -19,8 +18,7 @@ use Rattle.inspect.proofs.Numbers.{field-below, part-front, field-front
 pub record Framed (l : List ℕ) (h : IpRead) : Type 0 where
   pub first : fieldAt l 0 1 ≡ 0x45
   pub is : h ≡ headerOf l
-  pub head : 20 ≤ h .start
-  pub short : h .start ≤ 60
+  pub head : h .start ≡ 20
   pub order : h .start ≤ h .end
   pub all : h .end ≤ length l
   pub offset : h .off ≤ 8191
@@ -36,8 +34,7 @@ framed l h e =
     record {
       first = eqb-true (fieldAt l 0 1) 0x45 (not-false (eqb (fieldAt l 0 1) 0x45) (b .0));
       is = sym q;
-      head = rw (← q) (omega arith);
-      short = rw (← q) (omega arith);
+      head = rw (← q) refl;
       order = rw (← q) (ltb-false (headerOf l .end) (headerOf l .start) (d .0));
       all = rw (← q) (ltb-false (length l) (headerOf l .end) (f .0));
       offset = rw (← q) (omega arith);
@@ -65,12 +62,6 @@ read-framed l h e = framed l h (was-read l h e .0)
 pub read-end : (l : List ℕ) (h : IpRead) → Bytes l → readAnswer l ≡ gives h → h .end ≤ 65535
 unfolding headerOf
 read-end l h b e = rw (read-framed l h e .is) (omega (arith, field-below 2 2 l b))
-
--- The data part has no more bytes than a packet can have behind its header.
-pub read-short : (l : List ℕ) (h : IpRead) → Bytes l → readAnswer l ≡ gives h → length (dataOf h l) ≤ 65515
-read-short l h b e =
-    let f = read-framed l h e in
-    simp (length-take, length-drop) (omega (arith, read-end l h b e))
 
 -- a step of reading: what is framed is read exactly if its header verifies
 pub read-step : (l : List ℕ) (h : IpRead) (t : Bool) → frameAnswer l ≡ gives h → t ≡ verifies (take (h .start - 0) l)
@@ -129,10 +120,3 @@ module _ (l r : List ℕ) (long : 20 ≤ totalOf l) (there : totalOf l ≤ lengt
 -- what a header that was read says of its packet's length
 pub read-total : (l : List ℕ) (h : IpRead) → readAnswer l ≡ gives h → h .end ≡ totalOf l
 read-total l h e = ap (λ (g : IpRead). g .end) (read-framed l h e .is) ∙ end-is l
-
--- A packet that was read is read alike with any other bytes behind it.
-pub read-kept : (l r : List ℕ) (h : IpRead) → readAnswer l ≡ gives h → readAnswer (take (h .end) l ++ r) ≡ gives h
-read-kept l r h e =
-    let f = read-framed l h e in
-    let n = read-total l h e in
-    ap (λ (k : ℕ). readAnswer (take k l ++ r)) n ∙ read-front l r (omega arith) (omega arith) ∙ e

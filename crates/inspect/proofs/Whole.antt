@@ -12,7 +12,8 @@ use Rattle.pkt.specs.Rfc768.{pseudo, pseudoFields}
 use Rattle.pkt.specs.Sums.{total}
 use Rattle.pkt.specs.declared.ipv4.Sum.{Sum}
 use Rattle.pkt.specs.declared.ipv4.Sum.the-variants.{Is, Refused}
-use Rattle.pkt.proofs.Bytes.{Bytes, bytes-append}
+use Rattle.pkt.proofs.Bytes.{bytes-append}
+use Rattle.pkt.specs.Fields.{Bytes}
 use Rattle.pkt.proofs.Fields.{fields-bytes}
 use Rattle.pkt.proofs.Checksum.{sum-total, canon-most}
 use Rattle.inspect.specs.Header.{isZero, verifies}

@@ -9,11 +9,6 @@ use Rattle.inspect.specs.declared.check.Found.the-variants as found
 use Rattle.inspect.specs.declared.check.Checked.{Checked}
 use Rattle.inspect.specs.declared.check.Checked.the-variants.{Good, NoChecksum, Refused}
 
--- one answer, and what follows where it is no refusal
-abbrev pub andThen : {A B : Type 0} → Answer A → (A → Answer B) → Answer B
-andThen (refused n) f = refused n
-andThen (gives a) f = f a
-
 abbrev pub readSays : Seen → Answer IpRead
 readSays (seen.Packet h) = gives h
 readSays (seen.Refused n) = refused n

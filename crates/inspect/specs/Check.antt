@@ -1,20 +1,23 @@
--- The check of a finished packet: document 01, 'Check of a finished packet' and its numbers 13, 12, 14 and 15.
+-- The check of a finished packet: document 01, 'Check of a finished packet' and its numbers 13, 12, 14 and 15, and 1 of its second step alone.
 use Prim.Native.Nat.{ℕ}
 use mathlib.Core.Bool.{Bool, not, _&&_, _||_, cond}
 use mathlib.Core.List.{List, _++_}
 use lib.ListN.{length}
 use lib.Dec.{ltb, eqb}
-use Rattle.pkt.specs.Answers.{Answer, refused, gives}
+use Rattle.pkt.specs.Answers.{Answer, refused, gives, andThen}
 use Rattle.pkt.specs.Rfc768.{pseudo}
-use Rattle.inspect.specs.Answers.{andThen, Verdict, good, noChecksum}
+use Rattle.inspect.specs.Answers.{Verdict, good, noChecksum}
 use Rattle.inspect.specs.Header.{fieldAt, verifies, readAnswer, dataOf}
 use Rattle.inspect.specs.declared.header.IpRead.{IpRead}
 use Rattle.inspect.specs.declared.check.Kind.{Kind}
 use Rattle.inspect.specs.declared.check.Kind.the-variants.{Tcp, Udp, Bare, Icmp}
 
 -- 13: "offset not 0, or MF set"
+abbrev pub ofMany : Bool → ℕ → Bool
+ofMany mf off = mf || not (eqb off 0)
+
 abbrev pub isPiece : IpRead → Bool
-isPiece h = h .mf || not (eqb (h .off) 0)
+isPiece h = ofMany (h .mf) (h .off)
 
 -- 12: "protocol is not 1, 6 or 17"
 abbrev pub isOther : ℕ → Bool
@@ -42,8 +45,8 @@ wholeAnswer h d =
     (cond (isCut (h .protocol) d) (refused 14) (gives (kindOf (h .protocol) d))))
 
 -- RFC 768 and RFC 9293, 3.1: a transport part verifies with its pseudo header before it
-abbrev pub between : IpRead → ℕ → List ℕ → Bool
-between h p d = verifies (pseudo (h .saddr) (h .daddr) p (length d) ++ d)
+abbrev pub verifiesBehindPseudo : IpRead → ℕ → List ℕ → Bool
+verifiesBehindPseudo h p d = verifies (pseudo (h .saddr) (h .daddr) p (length d) ++ d)
 
 -- 15: "transport checksum does not verify"
 abbrev pub unlessBad : Bool → Answer Verdict
@@ -51,8 +54,8 @@ unlessBad t = cond t (gives good) (refused 15)
 
 -- Whether the sums of a whole packet verify. A UDP field of 0 is not summed.
 unfoldable pub verdictOf : Kind → IpRead → List ℕ → Answer Verdict
-verdictOf Tcp h d = unlessBad (between h 6 d)
-verdictOf Udp h d = unlessBad (between h 17 d)
+verdictOf Tcp h d = unlessBad (verifiesBehindPseudo h 6 d)
+verdictOf Udp h d = unlessBad (verifiesBehindPseudo h 17 d)
 verdictOf Bare h d = gives noChecksum
 verdictOf Icmp h d = unlessBad (verifies d)
 

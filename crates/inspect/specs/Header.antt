@@ -4,12 +4,11 @@ use mathlib.Core.Bool.{Bool, false, not, cond}
 use mathlib.Core.List.{List}
 use lib.ListN.{length, take, drop}
 use lib.Dec.{ltb, eqb}
-use Rattle.pkt.specs.Answers.{Answer, refused, gives}
+use Rattle.pkt.specs.Answers.{Answer, refused, gives, andThen}
 use Rattle.pkt.specs.Rfc1071.{words, sum}
 use Rattle.pkt.specs.Fields.{value}
 use Rattle.pkt.specs.declared.ipv4.Sum.{Sum}
 use Rattle.pkt.specs.declared.ipv4.Sum.the-variants as csum
-use Rattle.inspect.specs.Answers.{andThen}
 use Rattle.inspect.specs.declared.header.IpRead.{IpRead}
 
 -- the number that k bytes of l from a place on stand for, big-endian

@@ -10,7 +10,7 @@ ghost use mathlib.Core.Path.{_≡_};
 ghost use Prim.Native.Nat.{_≤_};
 ghost use lib.ListN.{length};
 ghost use Rattle.inspect.specs.Answers.{foundSays, checkedSays};
-ghost use Rattle.inspect.specs.Check.{isPiece, isOther, tcpCut, udpCut, isCut, kindOf, wholeAnswer, between, unlessBad, sumsAnswer, partAnswer, checkAnswer};
+ghost use Rattle.inspect.specs.Check.{isPiece, isOther, tcpCut, udpCut, isCut, kindOf, wholeAnswer, verifiesBehindPseudo, unlessBad, sumsAnswer, partAnswer, checkAnswer};
 
 // The kinds of whole packets. Bare is UDP with a checksum field of 0.
 pub enum Kind {
@@ -114,10 +114,10 @@ pub fn whole(h: IpRead, part: &[u8]) -> Found
     Found::Is(kind_of(h.protocol, part))
 }
 
-// Whether a transport part verifies between the addresses of its header.
-fn verify(h: IpRead, protocol: u8, part: &[u8]) -> bool
+// Whether a transport part verifies behind the pseudo header with the addresses of its header.
+fn verify_part(h: IpRead, protocol: u8, part: &[u8]) -> bool
     requires { ⌜ length (now part) ≤ 65515 ⌝ }
-    ensures { λ r. ⌜ r ≡ between h protocol (now (part .entry)) ⌝ }
+    ensures { λ r. ⌜ r ≡ verifiesBehindPseudo h protocol (now (part .entry)) ⌝ }
 {
     header::is_zero(ipv4::transport_csum(h.saddr, h.daddr, protocol, part))
 }
@@ -138,11 +138,11 @@ pub fn sums(kind: Kind, h: IpRead, part: &[u8]) -> Checked
     ensures { λ r. ⌜ checkedSays r ≡ sumsAnswer kind h (now (part .entry)) ⌝ }
 {
     if part.len() > 65515 {
-        return Checked::Refused(pkt::refusal::TOO_LONG);
+        return Checked::Refused(refusal::TOO_LONG);
     }
     match kind {
-        Kind::Tcp => unless_bad(verify(h, proto::TCP, part)),
-        Kind::Udp => unless_bad(verify(h, proto::UDP, part)),
+        Kind::Tcp => unless_bad(verify_part(h, proto::TCP, part)),
+        Kind::Udp => unless_bad(verify_part(h, proto::UDP, part)),
         Kind::Bare => Checked::NoChecksum,
         Kind::Icmp => unless_bad(header::verify(part)),
     }

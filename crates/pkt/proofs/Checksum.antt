@@ -6,9 +6,9 @@ use mathlib.Core.List.{List, [], _∷_, _++_}
 use lib.ListN.{length, getD, drop, drop-of-length-le}
 use lib.Seq.{drop-cons}
 use native.Mathlib.Numerals.{add-one, add-two}
-use Rattle.pkt.proofs.Bytes.{Bytes, bytes-append}
+use Rattle.pkt.proofs.Bytes.{bytes-append}
 use Rattle.pkt.proofs.Fields.{be-bytes}
-use Rattle.pkt.specs.Fields.{be}
+use Rattle.pkt.specs.Fields.{be, Bytes}
 use Rattle.pkt.specs.Rfc768.{nonzero}
 use Rattle.pkt.specs.Rfc1071.{words, plus, sum, checksum, Verifies}
 use Rattle.pkt.specs.Sums.{total, canon, folded}

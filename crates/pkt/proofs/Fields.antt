@@ -7,8 +7,8 @@ use mathlib.Core.List.{List, [], _∷_, _++_, append-assoc}
 use lib.ListN.{length, take, drop, length-append}
 use lib.Seq.{take-at, drop-at}
 use lib.Arith.{mod-mul}
-use Rattle.pkt.specs.Fields.{be, value, Field, fields, widths}
-use Rattle.pkt.proofs.Bytes.{Bytes, bytes-nil, bytes-cons, bytes-append}
+use Rattle.pkt.specs.Fields.{be, value, Field, fields, widths, Bytes}
+use Rattle.pkt.proofs.Bytes.{bytes-nil, bytes-cons, bytes-append}
 
 pub be-length : (k x : ℕ) → length (be k x) ≡ k
 be-length zero x = refl

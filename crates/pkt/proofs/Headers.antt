@@ -6,7 +6,7 @@ use mathlib.Core.List.{List, [], _∷_, _++_}
 use lib.ListN.{length}
 use Rattle.pkt.specs.Rfc1071.{checksum, Verifies}
 use Rattle.pkt.specs.Sums.{total, canon}
-use Rattle.pkt.specs.Fields.{be, Field, field, fields}
+use Rattle.pkt.specs.Fields.{be, Field, field, fields, Bytes}
 use Rattle.pkt.specs.Rfc791.{ipBytes, ipHeader}
 use Rattle.pkt.specs.Rfc768.{pseudoFields, pseudo, nonzero, udpFields, udpHeader, udpChecksum}
 use Rattle.pkt.specs.Rfc9293.{tcpFields, tcpHeader, tcpChecksum}
@@ -16,7 +16,7 @@ use Rattle.pkt.specs.declared.ipv4.«tcp_hdr».{«tcp_hdr»}
 use Rattle.pkt.specs.declared.ipv4.«udp_hdr».{«udp_hdr»}
 use Rattle.pkt.specs.declared.ipv4.«icmp_hdr».{«icmp_hdr»}
 use Rattle.pkt.specs.declared.ipv4.«icmp_echo_hdr».{«icmp_echo_hdr»}
-use Rattle.pkt.proofs.Bytes.{Bytes, bytes-append}
+use Rattle.pkt.proofs.Bytes.{bytes-append}
 use Rattle.pkt.proofs.Checksum.{verifies, verifies-nonzero, parts-checksum}
 use Rattle.pkt.proofs.Fields.{fields-bytes}
 

@@ -20,6 +20,16 @@ pub data Answer (A : Type 0) : Type 0 where
   refused : ℕ → Answer A
   gives : A → Answer A
 
+-- what is made of what is given; a refusal stays
+abbrev pub mapped : {A B : Type 0} → (A → B) → Answer A → Answer B
+mapped f (refused n) = refused n
+mapped f (gives a) = gives (f a)
+
+-- one answer, and what follows where it is no refusal
+abbrev pub andThen : {A B : Type 0} → Answer A → (A → Answer B) → Answer B
+andThen (refused n) f = refused n
+andThen (gives a) f = f a
+
 abbrev pub sumSays : Sum → Answer ℕ
 sumSays (Is c) = gives c
 sumSays (Refused n) = refused n

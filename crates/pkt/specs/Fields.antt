@@ -1,6 +1,11 @@
--- Numbers in bytes, the highest first, and a header as the list of its fields.
-use Prim.Native.Nat.{ℕ, zero, suc, _+_, _*_, _/_, _%_}
+-- Bytes, numbers in them, the highest first, and a header as the list of its fields.
+use Prim.Native.Nat.{ℕ, zero, suc, _+_, _*_, _/_, _%_, _<_}
 use mathlib.Core.List.{List, [], _∷_, _++_}
+use lib.ListN.{getD}
+
+-- each of a list is a byte
+abbrev pub Bytes : List ℕ → Type 0
+Bytes l = (i : ℕ) → getD l i 0 < 256
 
 -- x in k bytes, big-endian: the low byte last, and what is above it in the k - 1 bytes before
 abbrev pub be : ℕ → ℕ → List ℕ

@@ -3,7 +3,6 @@ use borrow.Author.Tests.{not-true, not-false}
 use mathlib.Core.Path.{_≡_, sym, ap, _∙_}
 use mathlib.Core.Bool.{true}
 use native.Mathlib.Omega.{arith}
-use Rattle.pkt.specs.Answers.{refused}
 use Rattle.inspect.specs.Answers.{readSays}
 use Rattle.inspect.proofs.Reading.{read-framed}
 use Rattle.assembly.specs.View.{view}

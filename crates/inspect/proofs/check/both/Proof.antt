@@ -1,9 +1,9 @@
 -- What is whole is summed, and never too long to be.
 use mathlib.Core.Path.{sym, ap, _∙_}
-use Rattle.pkt.specs.Answers.{Answer}
+use Rattle.pkt.specs.Answers.{Answer, andThen}
 use Rattle.inspect.specs.declared.check.Kind.{Kind}
 use Rattle.inspect.specs.Check.{verdictOf}
-use Rattle.inspect.specs.Answers.{andThen, foundSays}
+use Rattle.inspect.specs.Answers.{foundSays}
 use Rattle.inspect.proofs.Checking.{sums-short}
 use borrow.Author.Needs.{needs}
 use Rattle.inspect.proofs.check.both.Statement.{statement}

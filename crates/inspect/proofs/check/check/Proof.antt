@@ -4,11 +4,11 @@ use Prim.Native.Nat.{ℕ}
 use mathlib.Core.List.{List}
 use lib.ListN.{length-take, length-drop}
 use mathlib.Core.Path.{sym, ap, _∙_}
-use Rattle.pkt.specs.Answers.{Answer}
+use Rattle.pkt.specs.Answers.{Answer, andThen}
 use Rattle.inspect.specs.declared.header.IpRead.{IpRead}
 use Rattle.inspect.specs.Check.{partAnswer, checkAnswer}
 use Rattle.inspect.specs.Header.{dataOf}
-use Rattle.inspect.specs.Answers.{andThen, readSays}
+use Rattle.inspect.specs.Answers.{readSays}
 use Rattle.inspect.proofs.Reading.{read-framed, read-end}
 use borrow.Author.Needs.{needs}
 use Rattle.inspect.proofs.check.check.Statement.{statement}

@@ -13,13 +13,13 @@ returns-2 : tie.Need-returns-2
 unfolding verdictOf
 returns-2 c =
     let at-if = c .before .before .before .before in
-    rw (c .before .before .enum-told .given .1, le-ltb _ _ (at-if .if1 .left)) (c .unless-bad .ensures ∙ ap unlessBad (c .before .verify .ensures))
+    rw (c .before .before .enum-told .given .1, le-ltb _ _ (at-if .if1 .left)) (c .unless-bad .ensures ∙ ap unlessBad (c .before .verify-part .ensures))
 
 returns-3 : tie.Need-returns-3
 unfolding verdictOf
 returns-3 c =
     let at-if = c .before .before .before .before in
-    rw (c .before .before .enum-told2 .given .1, le-ltb _ _ (at-if .if1 .left)) (c .unless-bad2 .ensures ∙ ap unlessBad (c .before .verify2 .ensures))
+    rw (c .before .before .enum-told2 .given .1, le-ltb _ _ (at-if .if1 .left)) (c .unless-bad2 .ensures ∙ ap unlessBad (c .before .verify-part2 .ensures))
 
 returns-4 : tie.Need-returns-4
 unfolding verdictOf
@@ -29,7 +29,7 @@ returns-5 : tie.Need-returns-5
 unfolding verdictOf
 returns-5 c =
     let at-if = c .before .before .before .before in
-    rw (c .before .before .enum-told4 .given .1, le-ltb _ _ (at-if .if1 .left)) (c .unless-bad3 .ensures ∙ ap unlessBad (c .before .verify3 .ensures))
+    rw (c .before .before .enum-told4 .given .1, le-ltb _ _ (at-if .if1 .left)) (c .unless-bad3 .ensures ∙ ap unlessBad (c .before .verify .ensures))
 
 pub sums-spec : {M : Type 1} → statement M
 sums-spec =

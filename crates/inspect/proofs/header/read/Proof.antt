@@ -1,11 +1,11 @@
 -- What is framed is read exactly if its header verifies.
 use Rattle.inspect.specs.declared.header.IpRead.{IpRead}
-use Rattle.pkt.specs.Answers.{Answer}
+use Rattle.pkt.specs.Answers.{Answer, andThen}
 use mathlib.Core.Bool.{true, false}
 use lib.ListN.{length-take}
 use Prim.Native.Nat.{ℕ}
 use mathlib.Core.Path.{sym, ap, _∙_}
-use Rattle.inspect.specs.Answers.{andThen, readSays}
+use Rattle.inspect.specs.Answers.{readSays}
 use Rattle.inspect.specs.Header.{readAnswer}
 use native.Mathlib.Omega.{arith}
 use mathlib.Core.List.{List}
@@ -26,7 +26,7 @@ verify-requires c κs =
     let at-frame = c .before .before .before .before in
     let l : List ℕ = at-frame .before .before .args .packet .now in
     let e = sym (at-frame .frame .ensures) ∙ ap readSays (c .before .before .h .given .1) in
-    simp length-take (omega (arith, framed l _ e .short))
+    simp length-take (omega (arith, framed l _ e .head))
 
 returns : tie.Need-returns
 unfolding readAnswer

@@ -6,8 +6,8 @@ use mathlib.Core.List.{List, _++_}
 use mathlib.Core.Path.{_∙_}
 use Rattle.inspect.proofs.Whole.{zero-sum, behind-pseudo}
 use borrow.Author.Needs.{needs}
-use Rattle.inspect.proofs.check.verify.Statement.{statement}
-use Rattle.inspect.proofs.check.verify.Tie as tie
+use Rattle.inspect.proofs.check.verify_part.Statement.{statement}
+use Rattle.inspect.proofs.check.verify_part.Tie as tie
 
 returns : tie.Need-returns
 returns c =
@@ -20,5 +20,5 @@ returns c =
     (c .before .before .before .pre)
     (c .before .transport-csum .ensures)
 
-pub verify-spec : {M : Type 1} → statement M
-verify-spec = tie.close (tie.spec (λ c κs. search needs) (λ c κs. search needs) returns)
+pub verify-part-spec : {M : Type 1} → statement M
+verify-part-spec = tie.close (tie.spec (λ c κs. search needs) (λ c κs. search needs) returns)
