@@ -1,0 +1,62 @@
+-- Each call's whole promise to C: the wrapped call's answer, as C sees it, and every lent byte after it.
+use Prim.Native.Nat.{ℕ}
+use mathlib.Core.Path.{_≡_}
+use mathlib.Core.List.{List}
+use lib.ListN.{length}
+use Rattle.pkt.specs.Answers.{Answer}
+use Rattle.pkt.specs.Written.{leaves}
+use Rattle.ezpkt.specs.Build.{answerOf, packetOf}
+use Rattle.ezpkt.specs.Tcp4.{Emit, sendAnswer, sentBytes}
+use Rattle.ezpkt.specs.Icmp4.{withFlow}
+use Rattle.ezpkt.specs.declared.build.Request.{Request}
+use Rattle.ezpkt.specs.declared.tcp4.TcpFlow.{TcpFlow}
+use Rattle.ezpkt.specs.declared.icmp4.IcmpFlow.{IcmpFlow}
+use Rattle.packet.specs.Headroom.{valid}
+use Rattle.packet.specs.Dump.{dumpOf}
+use Rattle.packet.specs.Answers.{copyOf, Done}
+use Rattle.packet.specs.declared.Packet.{Packet}
+use Rattle.assembly.specs.View.{view, recordOf}
+use Rattle.assembly.specs.Answers.{mapped, replyOf, payloadAfter, mapAfter}
+use Rattle.assembly.specs.Calls.{capacity, mapBytes, openAnswer, takeAnswer}
+use Rattle.assembly.specs.declared.Key.{Key}
+use Rattle.wispbundle.specs.Answers.{lengthFor, copiedSays, tcpFor, icmpFor, recOf, openedFor, takenFor}
+use Rattle.wispbundle.specs.declared.lengths.«wb_length».{«wb_length»}
+use Rattle.wispbundle.specs.declared.tcp.«wb_tcp_sent».{«wb_tcp_sent»}
+use Rattle.wispbundle.specs.declared.icmp.«wb_icmp_sent».{«wb_icmp_sent»}
+use Rattle.wispbundle.specs.declared.assembling.«wb_assembly».{«wb_assembly»}
+use Rattle.wispbundle.specs.declared.assembling.«wb_opened».{«wb_opened»}
+use Rattle.wispbundle.specs.declared.assembling.«wb_taken».{«wb_taken»}
+
+-- bytes b into the buffer o, where the answer is a
+abbrev pub Writes : Answer ℕ → List ℕ → List ℕ → «wb_length» → List ℕ → Type 0
+Writes a b o r o′ = Done «wb_length» (lengthFor a) r (leaves a b o) o′
+
+-- the packet that a request and its payload p are, into the buffer o
+abbrev pub Builds : Request → List ℕ → List ℕ → «wb_length» → List ℕ → Type 0
+Builds q p o r o′ = Writes (answerOf q (length p) (length o)) (packetOf q p) o r o′
+
+-- the dump of a packet in the buffer b, into the buffer o
+abbrev pub Dumps : Packet → List ℕ → List ℕ → «wb_length» → List ℕ → Type 0
+Dumps p b o r o′ = Writes (copiedSays (copyOf (valid p (length b)) (length (dumpOf p b)) (length o))) (dumpOf p b) o r o′
+
+-- packets of the flow f, end to end into the buffer o
+abbrev pub TcpSends : TcpFlow → List Emit → List ℕ → «wb_tcp_sent» → List ℕ → Type 0
+TcpSends f es o r o′ =
+    Done «wb_tcp_sent» (tcpFor f (sendAnswer f es (length o))) r (leaves (sendAnswer f es (length o)) (sentBytes f es) o) o′
+
+-- the packet q of the flow f, which is g after it, with the payload p, into the buffer o
+abbrev pub IcmpSends : IcmpFlow → Request → IcmpFlow → List ℕ → List ℕ → «wb_icmp_sent» → List ℕ → Type 0
+IcmpSends f q g p o r o′ =
+    Done «wb_icmp_sent» (icmpFor f (withFlow g (answerOf q (length p) (length o)))) r (leaves (answerOf q (length p) (length o)) (packetOf q p) o) o′
+
+-- d and m are the buffers before, d′ and m′ after
+pub record AssemblyOpens (k : Key) (d m : List ℕ) (r : «wb_opened») (d′ m′ : List ℕ) : Type 0 where
+  pub answer : r ≡ openedFor (mapped recordOf (openAnswer capacity mapBytes k (length d) (length m)))
+  pub payload-is : d′ ≡ payloadAfter (openAnswer capacity mapBytes k (length d) (length m)) d
+  pub map-is : m′ ≡ mapAfter (openAnswer capacity mapBytes k (length d) (length m)) m
+
+-- a is the assembly before, l the packet
+pub record AssemblyTakes (a : «wb_assembly») (d m l : List ℕ) (r : «wb_taken») (d′ m′ : List ℕ) : Type 0 where
+  pub answer : r ≡ takenFor a (mapped replyOf (takeAnswer capacity mapBytes (view (recOf a) d m) l))
+  pub payload-is : d′ ≡ payloadAfter (takeAnswer capacity mapBytes (view (recOf a) d m) l) d
+  pub map-is : m′ ≡ mapAfter (takeAnswer capacity mapBytes (view (recOf a) d m) l) m

@@ -1,0 +1,16 @@
+// The library for C: each call of the crates below on numbers, byte slices and plain structs. A byte slice is a
+// pointer and behind it a length. Each answer has a status, which is 0 or the number of the refusal; on a refusal all
+// else in it is 0, but a flow or an assembly is then the one that was handed in.
+pub mod assembling;
+pub mod building;
+pub mod captures;
+pub mod checking;
+pub mod dumps;
+pub mod icmp;
+pub mod lengths;
+pub mod sums;
+pub mod tcp;
+pub mod udp;
+
+// The status of a call that was carried out.
+pub const ACCEPTED: u8 = 0;
