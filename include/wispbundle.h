@@ -15,6 +15,10 @@
 #ifndef WISPBUNDLE_H
 #define WISPBUNDLE_H
 
+#if !defined(__x86_64__)
+#error "libwispbundle.a is for x86-64: elsewhere C passes structs otherwise"
+#endif
+
 #include <stdbool.h>
 #include <stddef.h>
 #include <stdint.h>
