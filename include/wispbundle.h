@@ -66,7 +66,7 @@ typedef struct {
     uint16_t sum;
 } wb_sum;
 
-/* Refuses by 1. Bytes that hold their own checksum sum to 0. */
+/* Refuses by 1. Bytes whose own checksum is among them have the checksum 0 if they verify. */
 wb_sum wb_ip_csum(const uint8_t *buf, size_t buf_len);
 
 /* ---- building a packet
@@ -121,15 +121,17 @@ typedef struct {
     uint16_t len;
 } wb_ip_piece;
 
-wb_length wb_build_tcp(wb_tcp_segment segment, const uint8_t *payload, size_t payload_len, uint8_t *out, size_t out_len);
-wb_length wb_build_udp(wb_udp_datagram datagram, const uint8_t *payload, size_t payload_len, uint8_t *out, size_t out_len);
+wb_length wb_build_tcp(wb_tcp_segment segment, const uint8_t *payload, size_t payload_len, uint8_t *out,
+                       size_t out_len);
+wb_length wb_build_udp(wb_udp_datagram datagram, const uint8_t *payload, size_t payload_len, uint8_t *out,
+                       size_t out_len);
 wb_length wb_build_icmp(wb_icmp_packet echo, const uint8_t *payload, size_t payload_len, uint8_t *out, size_t out_len);
 wb_length wb_build_piece(wb_ip_piece piece, const uint8_t *payload, size_t payload_len, uint8_t *out, size_t out_len);
 
 /* ---- pieces of an IPv4 payload
  * A piece carries the payload's bytes from 8·off up to 8·(off + len), as far as they are there; MF is set exactly if
- * bytes follow. A piece past the payload's end is empty, has MF clear and so claims a longer datagram: an assembly
- * is spoilt by it. */
+ * bytes follow. A piece past the payload's end is empty and has MF clear, so it claims a longer datagram: with the
+ * payload's last piece it spoils an assembly. */
 
 wb_length wb_fragment(wb_template template_, const uint8_t *payload, size_t payload_len, uint16_t off, uint16_t len,
                       uint8_t *out, size_t out_len);
@@ -182,7 +184,8 @@ wb_tcp_sent wb_tcp_client_data_segment(wb_tcp_flow flow, const uint8_t *bytes, s
                                        size_t out_len);
 wb_tcp_sent wb_tcp_server_data_segment(wb_tcp_flow flow, const uint8_t *bytes, size_t bytes_len, uint8_t *out,
                                        size_t out_len);
-/* The same with any flags and offset field, and behind it, where send_ack is true, the other side's ACK. */
+/* The same with frag_off as the IPv4 header's whole field, and behind it, where send_ack is true, the other side's ACK,
+ * 40 bytes more. */
 wb_tcp_sent wb_tcp_client_message(wb_tcp_flow flow, const uint8_t *bytes, size_t bytes_len, bool send_ack,
                                   uint16_t frag_off, uint8_t *out, size_t out_len);
 wb_tcp_sent wb_tcp_server_message(wb_tcp_flow flow, const uint8_t *bytes, size_t bytes_len, bool send_ack,
@@ -259,7 +262,8 @@ typedef struct {
 
 wb_icmp_flow wb_icmp_new(uint32_t cl, uint32_t sv);
 wb_icmp_sent wb_icmp_echo(wb_icmp_flow flow, const uint8_t *bytes, size_t bytes_len, uint8_t *out, size_t out_len);
-wb_icmp_sent wb_icmp_echo_reply(wb_icmp_flow flow, const uint8_t *bytes, size_t bytes_len, uint8_t *out, size_t out_len);
+wb_icmp_sent wb_icmp_echo_reply(wb_icmp_flow flow, const uint8_t *bytes, size_t bytes_len, uint8_t *out,
+                                size_t out_len);
 
 /* ---- the check of a finished packet */
 
