@@ -2,16 +2,16 @@
 use mathlib.Core.Path.{_≡_, refl, ap, _∙_}
 use mathlib.Core.List.{List}
 use Prim.Native.Nat.{ℕ}
-use Rattle.pkt.specs.Answers.{Answer}
+use Rattle.pkt.specs.Answers.{Answer, refused, gives}
 use Rattle.pkt.specs.Written.{leaves, written}
 use Rattle.ezpkt.specs.Answers.{builtSays}
 use Rattle.ezpkt.specs.Build.{Answered}
-use Rattle.ezpkt.specs.Tcp4 as tcp
+use Rattle.tcp4.specs.Tcp4 as tcp
 use Rattle.ezpkt.specs.Icmp4 as icmp
 use Rattle.ezpkt.specs.declared.build.Request.{Request}
 use Rattle.ezpkt.specs.declared.build.Built.{Built}
-use Rattle.ezpkt.specs.declared.tcp4.TcpFlow.{TcpFlow}
-use Rattle.ezpkt.specs.declared.tcp4.Sent as tcp-answer
+use Rattle.tcp4.specs.declared.TcpFlow.{TcpFlow}
+use Rattle.tcp4.specs.declared.Sent as tcp-answer
 use Rattle.ezpkt.specs.declared.icmp4.IcmpFlow.{IcmpFlow}
 use Rattle.ezpkt.specs.declared.icmp4.Sent as icmp-answer
 use Rattle.pcap.specs.Answers.{Wrote, capturedSays}
@@ -19,17 +19,16 @@ use Rattle.pcap.specs.declared.Captured.{Captured}
 use lib.ListN.{length}
 use Rattle.packet.specs.Headroom.{valid}
 use Rattle.packet.specs.Dump.{dumpOf}
-use Rattle.packet.specs.Answers.{Dumped, afterCopied, copyOf}
+use Rattle.packet.specs.Answers.{Dumped, numberSays, unlessRefused, copyAnswer}
 use Rattle.packet.specs.declared.Packet.{Packet}
-use Rattle.packet.specs.declared.Copied.{Copied}
-use Rattle.packet.specs.declared.Copied.the-variants as copied
+use Rattle.packet.specs.declared.Number.{Number}
 use Rattle.assembly.specs.View.{view}
 use Rattle.assembly.specs.Answers.{openedSays, takenSays}
 use Rattle.assembly.specs.Calls.{capacity, mapBytes, Opens, Takes}
 use Rattle.assembly.specs.declared.Key.{Key}
 use Rattle.assembly.specs.declared.Opened.{Opened}
 use Rattle.assembly.specs.declared.Taken.{Taken}
-use Rattle.wispbundle.specs.Answers.{lengthFor, copiedSays, tcpFor, icmpFor, recOf, openedFor, takenFor}
+use Rattle.wispbundle.specs.Answers.{lengthFor, tcpFor, icmpFor, recOf, openedFor, takenFor}
 use Rattle.wispbundle.specs.Calls.{Writes, Builds, Dumps, TcpSends, IcmpSends, AssemblyOpens, AssemblyTakes}
 use Rattle.wispbundle.specs.declared.lengths.«wb_length».{«wb_length»}
 use Rattle.wispbundle.specs.declared.tcp.«wb_tcp_sent».{«wb_tcp_sent»}
@@ -54,16 +53,16 @@ pub captures : {a : Answer ℕ} {b o o′ : List ℕ} {k : Captured} {r : «wb_l
     → r ≡ lengthFor (capturedSays k) → Wrote a b o k o′ → Writes a b o r o′
 captures e x = record { answer = e ∙ ap lengthFor (x .answer); after = x .after }
 
-copied-leaves : (a : Copied) (d o : List ℕ) → afterCopied a (written d o) o ≡ leaves (copiedSays a) d o
-copied-leaves (copied.Bytes k) d o = refl
-copied-leaves (copied.Refused n) d o = refl
+copied-leaves : (a : Answer ℕ) (d o : List ℕ) → unlessRefused a (written d o) o ≡ leaves a d o
+copied-leaves (gives k) d o = refl
+copied-leaves (refused n) d o = refl
 
-pub dumps : (p : Packet) (b o : List ℕ) {o′ : List ℕ} {k : Copied} {r : «wb_length»}
-    → r ≡ lengthFor (copiedSays k) → Dumped p b o k o′ → Dumps p b o r o′
+pub dumps : (p : Packet) (b o : List ℕ) {o′ : List ℕ} {k : Number} {r : «wb_length»}
+    → r ≡ lengthFor (numberSays k) → Dumped p b o k o′ → Dumps p b o r o′
 dumps p b o e x =
     record {
-      answer = e ∙ ap (λ k. lengthFor (copiedSays k)) (x .answer);
-      after = x .after ∙ copied-leaves (copyOf (valid p (length b)) (length (dumpOf p b)) (length o)) (dumpOf p b) o;
+      answer = e ∙ ap lengthFor (x .answer);
+      after = x .after ∙ copied-leaves (copyAnswer (valid p (length b)) (length (dumpOf p b)) (length o)) (dumpOf p b) o;
     }
 
 pub assembly-opens : {k : Key} {d m d′ m′ : List ℕ} {a : Opened} {r : «wb_opened»}

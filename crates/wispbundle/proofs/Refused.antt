@@ -4,17 +4,17 @@ use mathlib.Core.List.{List}
 use Prim.Native.Nat.{ℕ, _<_}
 use native.Mathlib.Omega.{arith}
 use lib.ListN.{length}
-use Rattle.pkt.specs.Answers.{Answer, refused, gives}
+use Rattle.pkt.specs.Answers.{Answer, refused, gives, mapped}
 use Rattle.pkt.specs.Written.{leaves}
 use Rattle.ezpkt.specs.Build.{answerOf, packetOf}
 use Rattle.ezpkt.specs.Icmp4 as icmp
-use Rattle.ezpkt.specs.Tcp4 as tcp
+use Rattle.tcp4.specs.Tcp4 as tcp
 use Rattle.ezpkt.specs.declared.build.Request.{Request}
 use Rattle.ezpkt.specs.declared.icmp4.IcmpFlow.{IcmpFlow}
-use Rattle.ezpkt.specs.declared.tcp4.TcpFlow.{TcpFlow}
+use Rattle.tcp4.specs.declared.TcpFlow.{TcpFlow}
 use Rattle.assembly.specs.Assembly.{State}
 use Rattle.assembly.specs.View.{view, recordOf}
-use Rattle.assembly.specs.Answers.{mapped, replyOf, payloadAfter, mapAfter}
+use Rattle.assembly.specs.Answers.{replyOf, payloadAfter, mapAfter}
 use Rattle.assembly.specs.Calls.{capacity, mapBytes, openAnswer, takeAnswer}
 use Rattle.assembly.specs.declared.Key.{Key}
 use Rattle.wispbundle.specs.Answers.{tcpFor, icmpFor, recOf, openedFor, takenFor}

@@ -6,29 +6,25 @@ use Prim.Native.Nat.{ℕ, _+_, _*_, _<_}
 use native.Mathlib.Omega.{arith}
 use lib.ListN.{length, take}
 use lib.Dec.{ltb, eqb}
-use Rattle.pkt.specs.Answers.{Answer, refused, gives, csumAnswer}
+use Rattle.pkt.specs.Answers.{Answer, refused, gives, csumAnswer, andThen, mapped}
 use Rattle.ezpkt.specs.Build.{answerOf, sizeOf}
-use Rattle.ezpkt.specs.Tcp4.{Emit, anyLong, sizeAll, sendAnswer}
+use Rattle.tcp4.specs.Tcp4.{Emit, anyLong, sizeAll, sendAnswer}
 use Rattle.ezpkt.specs.Icmp4.{withFlow}
 use Rattle.ezpkt.specs.declared.build.Request.{Request}
 use Rattle.ezpkt.specs.declared.build.Request.the-variants.{Tcp, Udp, Echo, Piece}
-use Rattle.ezpkt.specs.declared.tcp4.TcpFlow.{TcpFlow}
+use Rattle.tcp4.specs.declared.TcpFlow.{TcpFlow}
 use Rattle.ezpkt.specs.declared.icmp4.IcmpFlow.{IcmpFlow}
 use Rattle.pcap.specs.Answers.{fitting, recordAnswer}
-use Rattle.packet.specs.Answers.{copyOf}
-use Rattle.packet.specs.declared.Copied.the-variants as copied
-use Rattle.inspect.specs.Answers.{andThen}
+use Rattle.packet.specs.Answers.{copyAnswer}
 use Rattle.inspect.specs.Header.{headerOf, fieldAt, frameAnswer, verifies, readAnswer, dataOf}
-use Rattle.inspect.specs.Check.{isPiece, isOther, isCut, wholeAnswer, between, unlessBad, verdictOf, checkAnswer}
+use Rattle.inspect.specs.Check.{isPiece, isOther, isCut, wholeAnswer, verifiesBehindPseudo, unlessBad, verdictOf, checkAnswer}
 use Rattle.inspect.specs.declared.header.IpRead.{IpRead}
 use Rattle.inspect.specs.declared.check.Kind.{Kind}
 use Rattle.inspect.specs.declared.check.Kind.the-variants as kind
 use Rattle.assembly.specs.Assembly.{State, step}
-use Rattle.assembly.specs.Answers.{mapped}
 use Rattle.assembly.specs.Carried.{sameKey, keyOf, broken, fitAnswer, judgeAnswer, headAnswer, pieceOf, pieceAnswer}
 use Rattle.assembly.specs.Calls.{sized, usable, openAnswer, takeAnswer}
 use Rattle.assembly.specs.declared.Key.{Key}
-use Rattle.wispbundle.specs.Answers.{copiedSays}
 use Rattle.wispbundle.specs.Status.{Numbered}
 
 -- ---- how answers are made
@@ -80,12 +76,8 @@ pub record-numbered : (n usec room : ℕ) → Numbered (recordAnswer n usec room
 record-numbered n usec room =
     unless (ltb 65535 n) 1 _ (omega arith) (unless (ltb 999999 usec) 17 _ (omega arith) (fitting-numbered (16 + n) room))
 
-pub copy-numbered : (ok : Bool) (k room : ℕ) → Numbered (copiedSays (copyOf ok k room))
-copy-numbered true k room = go (ltb room k) where
-  go : (t : Bool) → Numbered (copiedSays (cond t (copied.Refused 3) (copied.Bytes k)))
-  go true = refusing 3 (omega arith)
-  go false = given k
-copy-numbered false k room = refusing 16 (omega arith)
+pub copy-numbered : (ok : Bool) (k room : ℕ) → Numbered (copyAnswer ok k room)
+copy-numbered ok k room = either ok _ _ (fitting-numbered k room) (refusing 16 (omega arith))
 
 read-numbered : (l : List ℕ) → Numbered (readAnswer l)
 unfolding readAnswer frameAnswer
@@ -103,8 +95,8 @@ good-numbered false = refusing 15 (omega arith)
 
 verdict-numbered : (k : Kind) (h : IpRead) (d : List ℕ) → Numbered (verdictOf k h d)
 unfolding verdictOf
-verdict-numbered kind.Tcp h d = good-numbered (between h 6 d)
-verdict-numbered kind.Udp h d = good-numbered (between h 17 d)
+verdict-numbered kind.Tcp h d = good-numbered (verifiesBehindPseudo h 6 d)
+verdict-numbered kind.Udp h d = good-numbered (verifiesBehindPseudo h 17 d)
 verdict-numbered kind.Bare h d = given _
 verdict-numbered kind.Icmp h d = good-numbered (verifies d)
 

@@ -5,18 +5,16 @@ use mathlib.Core.Bool.{Bool, true, false, cond}
 use lib.ListN.{getD}
 use Rattle.pkt.specs.Answers.{Answer, refused, gives}
 use Rattle.ezpkt.specs.Icmp4 as icmp
-use Rattle.ezpkt.specs.Tcp4 as tcp
+use Rattle.tcp4.specs.Tcp4 as tcp
 use Rattle.ezpkt.specs.declared.icmp4.IcmpFlow.{IcmpFlow}
-use Rattle.ezpkt.specs.declared.tcp4.TcpFlow.{TcpFlow}
-use Rattle.ezpkt.specs.declared.tcp4.Pushed.{Pushed}
-use Rattle.ezpkt.specs.declared.tcp4.Seq.{Seq}
-use Rattle.ezpkt.specs.declared.tcp4.Seq.the-variants.{Is, Nothing}
+use Rattle.tcp4.specs.declared.TcpFlow.{TcpFlow}
+use Rattle.tcp4.specs.declared.Pushed.{Pushed}
+use Rattle.tcp4.specs.declared.Seq.{Seq}
+use Rattle.tcp4.specs.declared.Seq.the-variants.{Is, Nothing}
 use Rattle.ezpkt.specs.declared.udp4.Choices.{Choices}
 use Rattle.ezpkt.specs.declared.udp4.SrcIp.{SrcIp}
 use Rattle.ezpkt.specs.declared.udp4.SrcIp.the-variants.{Own, Other}
 use Rattle.inspect.specs.Answers.{Verdict, good, noChecksum}
-use Rattle.packet.specs.declared.Copied.{Copied}
-use Rattle.packet.specs.declared.Copied.the-variants as copied
 use Rattle.assembly.specs.Assembly.{Outcome, isWaiting, isComplete, isSpoilt}
 use Rattle.assembly.specs.Answers.{Reply}
 use Rattle.assembly.specs.declared.Rec.{Rec}
@@ -43,11 +41,6 @@ sumFor (refused n) = record { status = n; sum = 0 }
 abbrev pub lengthFor : Answer ℕ → «wb_length»
 lengthFor (gives k) = record { status = 0; length = k }
 lengthFor (refused n) = record { status = n; length = 0 }
-
--- what the answer of copying out says
-abbrev pub copiedSays : Copied → Answer ℕ
-copiedSays (copied.Bytes k) = gives k
-copiedSays (copied.Refused n) = refused n
 
 -- ---- flows
 

@@ -3,29 +3,34 @@ use Prim.Native.Nat.{ℕ}
 use mathlib.Core.Path.{_≡_}
 use mathlib.Core.List.{List}
 use lib.ListN.{length}
-use Rattle.pkt.specs.Answers.{Answer}
+use Rattle.pkt.specs.Answers.{Answer, mapped}
 use Rattle.pkt.specs.Written.{leaves}
 use Rattle.ezpkt.specs.Build.{answerOf, packetOf}
-use Rattle.ezpkt.specs.Tcp4.{Emit, sendAnswer, sentBytes}
+use Rattle.tcp4.specs.Tcp4.{Emit, sendAnswer, sentBytes}
 use Rattle.ezpkt.specs.Icmp4.{withFlow}
 use Rattle.ezpkt.specs.declared.build.Request.{Request}
-use Rattle.ezpkt.specs.declared.tcp4.TcpFlow.{TcpFlow}
+use Rattle.tcp4.specs.declared.TcpFlow.{TcpFlow}
 use Rattle.ezpkt.specs.declared.icmp4.IcmpFlow.{IcmpFlow}
 use Rattle.packet.specs.Headroom.{valid}
 use Rattle.packet.specs.Dump.{dumpOf}
-use Rattle.packet.specs.Answers.{copyOf, Done}
+use Rattle.packet.specs.Answers.{copyAnswer}
 use Rattle.packet.specs.declared.Packet.{Packet}
 use Rattle.assembly.specs.View.{view, recordOf}
-use Rattle.assembly.specs.Answers.{mapped, replyOf, payloadAfter, mapAfter}
+use Rattle.assembly.specs.Answers.{replyOf, payloadAfter, mapAfter}
 use Rattle.assembly.specs.Calls.{capacity, mapBytes, openAnswer, takeAnswer}
 use Rattle.assembly.specs.declared.Key.{Key}
-use Rattle.wispbundle.specs.Answers.{lengthFor, copiedSays, tcpFor, icmpFor, recOf, openedFor, takenFor}
+use Rattle.wispbundle.specs.Answers.{lengthFor, tcpFor, icmpFor, recOf, openedFor, takenFor}
 use Rattle.wispbundle.specs.declared.lengths.«wb_length».{«wb_length»}
 use Rattle.wispbundle.specs.declared.tcp.«wb_tcp_sent».{«wb_tcp_sent»}
 use Rattle.wispbundle.specs.declared.icmp.«wb_icmp_sent».{«wb_icmp_sent»}
 use Rattle.wispbundle.specs.declared.assembling.«wb_assembly».{«wb_assembly»}
 use Rattle.wispbundle.specs.declared.assembling.«wb_opened».{«wb_opened»}
 use Rattle.wispbundle.specs.declared.assembling.«wb_taken».{«wb_taken»}
+
+-- The one answer r, which is a, and the one buffer o′ after the call, which is x.
+pub record Done (R : Type 0) (a r : R) (x o′ : List ℕ) : Type 0 where
+  pub answer : r ≡ a
+  pub after : o′ ≡ x
 
 -- bytes b into the buffer o, where the answer is a
 abbrev pub Writes : Answer ℕ → List ℕ → List ℕ → «wb_length» → List ℕ → Type 0
@@ -37,7 +42,7 @@ Builds q p o r o′ = Writes (answerOf q (length p) (length o)) (packetOf q p) o
 
 -- the dump of a packet in the buffer b, into the buffer o
 abbrev pub Dumps : Packet → List ℕ → List ℕ → «wb_length» → List ℕ → Type 0
-Dumps p b o r o′ = Writes (copiedSays (copyOf (valid p (length b)) (length (dumpOf p b)) (length o))) (dumpOf p b) o r o′
+Dumps p b o r o′ = Writes (copyAnswer (valid p (length b)) (length (dumpOf p b)) (length o)) (dumpOf p b) o r o′
 
 -- packets of the flow f, end to end into the buffer o
 abbrev pub TcpSends : TcpFlow → List Emit → List ℕ → «wb_tcp_sent» → List ℕ → Type 0

@@ -1,14 +1,14 @@
 // Calls of a TCP flow. The answer hands the flow back: the next one, or on a refusal the one that came in.
 use ezpkt::SocketAddrV4;
-use ezpkt::tcp4::Header;
-use ezpkt::tcp4::Pushed;
-use ezpkt::tcp4::Sent;
-use ezpkt::tcp4::Seq;
-use ezpkt::tcp4::TcpFlow;
+use tcp4::Header;
+use tcp4::Pushed;
+use tcp4::Sent;
+use tcp4::Seq;
+use tcp4::TcpFlow;
 ghost use mathlib.Core.Path.{_≡_};
 ghost use mathlib.Core.List.{[], _∷_};
-ghost use Rattle.ezpkt.specs.Tcp4.{newFlow, sentSays, advance, emit, opening, closing, messageOf, popped, pushed, headed};
-ghost use Rattle.ezpkt.specs.declared.tcp4.Side.the-variants.{Client, Server};
+ghost use Rattle.tcp4.specs.Tcp4.{newFlow, sentSays, advance, emit, opening, closing, messageOf, popped, pushed, headed};
+ghost use Rattle.tcp4.specs.declared.Side.the-variants.{Client, Server};
 ghost use Rattle.wispbundle.specs.Answers.{seqOf, seqFor, pushedFor, tcpEnds, tcpFor};
 ghost use Rattle.wispbundle.specs.Calls.{TcpSends};
 
