@@ -80,6 +80,6 @@ pub pushed-only : (r s : Pushed) (a : Answer Grown) → pushedSays r ≡ a → p
 pushed-only r s a p q = told-once pushedSays pushedOf pushedOf-says r s a p q
 
 -- One answer and one buffer, where what is said determines the answer.
-pub done-only : (R A : Type 0) (says : R → Answer A) → ((r s : R) (a : Answer A) → says r ≡ a → says s ≡ a → r ≡ s)
-    → (a : Answer A) (x b : List ℕ) (r s : R) (b₁ b₂ : List ℕ) → Done R A says a x b r b₁ → Done R A says a x b s b₂ → (r ≡ s) × (b₁ ≡ b₂)
-done-only R A says one a x b r s b₁ b₂ f g = (one r s a (f .answer) (g .answer), f .after ∙ sym (g .after))
+pub done-only : {R A : Type 0} (says : R → Answer A) → ((r s : R) (a : Answer A) → says r ≡ a → says s ≡ a → r ≡ s)
+    → (a : Answer A) (x b : List ℕ) (r s : R) (b₁ b₂ : List ℕ) → Done says a x b r b₁ → Done says a x b s b₂ → (r ≡ s) × (b₁ ≡ b₂)
+done-only says one a x b r s b₁ b₂ f g = (one r s a (f .answer) (g .answer), f .after ∙ sym (g .after))

@@ -93,26 +93,25 @@ unlessRefused (gives a) x b = x
 unlessRefused (refused n) x b = b
 
 -- The one answer r, which says a, and the one buffer b′ after the call.
-pub record Done (R A : Type 0) (says : R → Answer A) (a : Answer A) (x b : List ℕ) (r : R) (b′ : List ℕ) : Type 0 where
+pub record Done {R A : Type 0} (says : R → Answer A) (a : Answer A) (x b : List ℕ) (r : R) (b′ : List ℕ) : Type 0 where
   pub answer : says r ≡ a
   pub after : b′ ≡ unlessRefused a x b
 
 -- a new packet in the buffer b: the headroom's bytes are zero
 abbrev pub Opened : ℕ → List ℕ → Made → List ℕ → Type 0
-Opened h b r b′ = Done Made Packet madeSays (newAnswer h (length b)) (written (zeros h) b) b r b′
+Opened h b r b′ = Done madeSays (newAnswer h (length b)) (written (zeros h) b) b r b′
 
 -- k bytes appended, which are d
 abbrev pub Appended : Packet → ℕ → List ℕ → List ℕ → Pushed → List ℕ → Type 0
-Appended p k d b r b′ = Done Pushed Grown pushedSays (pushAnswer p k (length b)) (placed (p .end) d b) b r b′
+Appended p k d b r b′ = Done pushedSays (pushAnswer p k (length b)) (placed (p .end) d b) b r b′
 
 -- the bytes d prepended from the headroom
 abbrev pub Prepended : Packet → List ℕ → List ℕ → Pushed → List ℕ → Type 0
-Prepended p d b r b′ =
-    Done Pushed Grown pushedSays (lowerAnswer p (length d) (length b)) (placed (p .headroom - length d) d b) b r b′
+Prepended p d b r b′ = Done pushedSays (lowerAnswer p (length d) (length b)) (placed (p .headroom - length d) d b) b r b′
 
 -- the k bytes d at the start of the output o, where ok says that they are there to be copied
 abbrev pub CopiedOut : Bool → ℕ → List ℕ → List ℕ → Number → List ℕ → Type 0
-CopiedOut ok k d o r o′ = Done Number ℕ numberSays (copyAnswer ok k (length o)) (written d o) o r o′
+CopiedOut ok k d o r o′ = Done numberSays (copyAnswer ok k (length o)) (written d o) o r o′
 
 -- to_vec: the packet of the buffer b, and never the headroom
 abbrev pub WholeCopied : Packet → List ℕ → List ℕ → Number → List ℕ → Type 0
