@@ -1,0 +1,178 @@
+//! Putting pieces together.
+
+use crate::{Refusal, sys};
+use std::net::Ipv4Addr;
+
+/// The size of an assembly's payload buffer.
+pub const PAYLOAD_BYTES: usize = 65_515;
+
+/// The size of an assembly's map.
+pub const MAP_BYTES: usize = 1024;
+
+/// What the pieces of one datagram have in common.
+#[derive(Copy, Clone, Debug, PartialEq, Eq, Hash)]
+pub struct Key {
+    pub src: Ipv4Addr,
+    pub dst: Ipv4Addr,
+    pub id: u16,
+}
+
+/// What an assembly knows beside its two buffers.
+#[derive(Copy, Clone, Debug, PartialEq, Eq)]
+pub struct Record {
+    pub key: Key,
+    /// The datagram's IPv4 payload bytes, where a piece with MF clear has told them.
+    pub total: Option<usize>,
+    /// The total is at least this.
+    pub floor: usize,
+    pub spoilt: bool,
+}
+
+/// What an accepted piece leaves behind.
+#[derive(Copy, Clone, Debug, PartialEq, Eq)]
+pub enum Outcome {
+    /// Bytes are missing still.
+    Waiting,
+    /// The whole IPv4 payload is held.
+    Complete,
+    /// Two pieces contradict each other. Both buffers are zero, and stay so.
+    Spoilt,
+}
+
+impl Key {
+    fn of(key: sys::Key) -> Self {
+        Self {
+            src: Ipv4Addr::from(key.saddr),
+            dst: Ipv4Addr::from(key.daddr),
+            id: key.id,
+        }
+    }
+
+    fn raw(&self) -> sys::Key {
+        sys::Key {
+            saddr: u32::from(self.src),
+            daddr: u32::from(self.dst),
+            id: self.id,
+        }
+    }
+}
+
+impl Record {
+    fn of(record: sys::Assembly) -> Self {
+        Self {
+            key: Key::of(record.key),
+            total: record.known.then_some(record.total),
+            floor: record.floor,
+            spoilt: record.spoilt,
+        }
+    }
+
+    fn raw(&self) -> sys::Assembly {
+        sys::Assembly {
+            key: self.key.raw(),
+            known: self.total.is_some(),
+            total: self.total.unwrap_or(0),
+            floor: self.floor,
+            spoilt: self.spoilt,
+        }
+    }
+}
+
+impl Outcome {
+    fn of(number: u8) -> Self {
+        match number {
+            1 => Self::Waiting,
+            2 => Self::Complete,
+            3 => Self::Spoilt,
+            n => unreachable!("an accepted piece is proved to have no outcome {n}"),
+        }
+    }
+}
+
+/// One datagram in progress, over two borrowed buffers of [`PAYLOAD_BYTES`] and [`MAP_BYTES`]. The
+/// order of the pieces does not show in what they end in, and repeats change nothing.
+///
+/// ```
+/// use wispbundle::{Assembly, Key, Outcome, Template};
+///
+/// let template = Template { id: 7, ..Template::new([10, 0, 0, 1].into(), [10, 0, 0, 2].into()) };
+/// let (mut payload, mut map) = ([0; wispbundle::PAYLOAD_BYTES], [0; wispbundle::MAP_BYTES]);
+/// let key = Key { src: template.src, dst: template.dst, id: 7 };
+/// let mut assembly = Assembly::open(key, &mut payload, &mut map).unwrap();
+/// let mut out = [0; 40];
+///
+/// let n = template.tail(b"twenty bytes of lap!", 1, &mut out).unwrap();
+/// assert_eq!(assembly.take(&out[..n]), Ok(Outcome::Waiting));
+/// let n = template.fragment(b"twenty bytes of lap!", 0, 1, &mut out).unwrap();
+/// assert_eq!(assembly.take(&out[..n]), Ok(Outcome::Complete));
+/// assert_eq!(assembly.held(), Some(&b"twenty bytes of lap!"[..]));
+/// ```
+#[derive(Debug)]
+pub struct Assembly<'a> {
+    record: Record,
+    payload: &'a mut [u8],
+    map: &'a mut [u8],
+    complete: bool,
+}
+
+impl<'a> Assembly<'a> {
+    /// Zeroes both buffers. Refuses by 11, for their sizes.
+    pub fn open(key: Key, payload: &'a mut [u8], map: &'a mut [u8]) -> Result<Self, Refusal> {
+        let (to, room, marks, marks_room) = (
+            payload.as_mut_ptr(),
+            payload.len(),
+            map.as_mut_ptr(),
+            map.len(),
+        );
+        // SAFETY: both pointers and counts are those of slices that are borrowed alone.
+        let answer = unsafe { sys::wb_assembly_open(key.raw(), to, room, marks, marks_room) };
+        Refusal::unless_accepted(answer.status)?;
+        Ok(Self::resume(Record::of(answer.assembly), payload, map))
+    }
+
+    /// Goes on with a record and buffers that were kept. Nothing is looked at before the next piece.
+    pub fn resume(record: Record, payload: &'a mut [u8], map: &'a mut [u8]) -> Self {
+        Self {
+            record,
+            payload,
+            map,
+            complete: false,
+        }
+    }
+
+    /// Takes the piece that a packet carries: its data goes to its place, and its blocks are marked.
+    /// Refuses by 11, 4, 5, 6, 4, 7, 8, 9, 10.
+    pub fn take(&mut self, packet: &[u8]) -> Result<Outcome, Refusal> {
+        let (before, from, count) = (self.record.raw(), packet.as_ptr(), packet.len());
+        let (to, room) = (self.payload.as_mut_ptr(), self.payload.len());
+        let (marks, marks_room) = (self.map.as_mut_ptr(), self.map.len());
+        // SAFETY: all pointers and counts are those of slices, and both buffers are borrowed alone.
+        let answer =
+            unsafe { sys::wb_assembly_take(before, from, count, to, room, marks, marks_room) };
+        Refusal::unless_accepted(answer.status)?;
+        self.record = Record::of(answer.assembly);
+        let outcome = Outcome::of(answer.outcome);
+        self.complete = outcome == Outcome::Complete;
+        Ok(outcome)
+    }
+
+    /// The datagram's IPv4 payload, where the last piece that was taken left it complete.
+    pub fn held(&self) -> Option<&[u8]> {
+        let total = self.record.total.filter(|_| self.complete)?;
+        self.payload.get(..total)
+    }
+
+    pub fn record(&self) -> Record {
+        self.record
+    }
+
+    /// The whole payload buffer.
+    pub fn payload(&self) -> &[u8] {
+        self.payload
+    }
+
+    /// Which blocks of 8 bytes are held: block k is bit k mod 8 of byte k/8, lowest bit first.
+    pub fn map(&self) -> &[u8] {
+        self.map
+    }
+}

@@ -1,0 +1,83 @@
+//! The numbered refusals.
+
+use crate::sys;
+use std::error::Error;
+use std::fmt;
+
+macro_rules! refusals {
+    ($($name:ident = $number:literal: $words:literal,)+) => {
+        /// Why a call was refused, by document 01's number. Where several apply, the first in the
+        /// order of that call is given.
+        #[derive(Copy, Clone, Debug, PartialEq, Eq, PartialOrd, Ord, Hash)]
+        #[repr(u8)]
+        pub enum Refusal {
+            $(#[doc = $words] $name = $number,)+
+        }
+
+        impl Refusal {
+            /// Every refusal, by number.
+            pub const ALL: [Self; 17] = [$(Self::$name),+];
+
+            /// When it is given, in document 01's words.
+            pub fn words(self) -> &'static str {
+                match self {
+                    $(Self::$name => $words,)+
+                }
+            }
+        }
+    };
+}
+
+refusals! {
+    TooLong = 1: "payload above 65,495 (TCP), 65,507 (UDP, ICMP), 65,515 (IPv4 payload); more than 65,535 bytes to sum or to put in one capture record",
+    BadOffset = 2: "piece offset above 8,191",
+    NoRoom = 3: "the lent output is shorter than what is to be written",
+    Short = 4: "fewer than 20 bytes, or fewer than the total length",
+    NotIpv4 = 5: "first byte is not 0x45",
+    BadTotal = 6: "total length below 20",
+    BadHeader = 7: "IPv4 header checksum does not verify",
+    WrongKey = 8: "key differs from the assembly's",
+    NotBlocks = 9: "MF set and data length no multiple of 8",
+    TooFar = 10: "end above 65,515",
+    BadAssembly = 11: "buffer sizes wrong, or total above 65,515 or floor above 65,513",
+    OtherProtocol = 12: "protocol is not 1, 6 or 17",
+    Piece = 13: "offset not 0, or MF set",
+    Cut = 14: "transport part under 20 (TCP) or 8 bytes; TCP data offset byte not 0x50; UDP length not the IPv4 payload's",
+    BadSum = 15: "transport checksum does not verify",
+    BadPart = 16: "headroom record with headroom > end, end > buffer or end (also the new one) > 1,048,576; a part not within the packet; lowering by more than the headroom; returning from another place or more than the packet",
+    BadTime = 17: "microseconds above 999,999",
+}
+
+impl Refusal {
+    /// Document 01's number, 1 to 17.
+    pub fn number(self) -> u8 {
+        self as u8
+    }
+
+    /// The refusal of that number, where there is one.
+    pub fn of_number(number: u8) -> Option<Self> {
+        let index = usize::from(number).checked_sub(1)?;
+        Self::ALL.get(index).copied()
+    }
+
+    /// What a status of the archive says: 0 is no refusal.
+    pub(crate) fn unless_accepted(status: u8) -> Result<(), Self> {
+        match status {
+            0 => Ok(()),
+            n => Err(Self::of_number(n).expect("a status is proved to be at most 17")),
+        }
+    }
+
+    pub(crate) fn or_length(answer: sys::Length) -> Result<usize, Self> {
+        Self::unless_accepted(answer.status).map(|()| answer.length)
+    }
+}
+
+/// The number and document 01's words, as in `refusal 2: piece offset above 8,191`.
+impl fmt::Display for Refusal {
+    fn fmt(&self, f: &mut fmt::Formatter<'_>) -> fmt::Result {
+        write!(f, "refusal {}: {}", self.number(), self.words())
+    }
+}
+
+impl Error for Refusal {}

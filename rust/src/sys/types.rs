@@ -1,0 +1,63 @@
+//! The structs of include/wispbundle.h, without `wb_` and in the same order.
+
+macro_rules! structs {
+    ($($(#[$doc:meta])* $name:ident { $($field:ident: $type:ty),+ $(,)? })+) => {
+        $($(#[$doc])*
+        #[repr(C)]
+        #[derive(Copy, Clone, Debug, PartialEq, Eq)]
+        pub struct $name {
+            $(pub $field: $type),+
+        })+
+    };
+}
+
+structs! {
+    Length { status: u8, length: usize }
+    Sum { status: u8, sum: u16 }
+    TcpSegment {
+        saddr: u32,
+        daddr: u32,
+        sport: u16,
+        dport: u16,
+        seq: u32,
+        ack: u32,
+        flags: u8,
+        frag_off: u16,
+    }
+    UdpDatagram {
+        saddr: u32,
+        daddr: u32,
+        sport: u16,
+        dport: u16,
+        frag_off: u16,
+        csum: bool,
+    }
+    IcmpPacket { saddr: u32, daddr: u32, reply: bool, seq: u16 }
+    Template {
+        tos: u8,
+        id: u16,
+        df: bool,
+        evil: bool,
+        ttl: u8,
+        protocol: u8,
+        saddr: u32,
+        daddr: u32,
+    }
+    IpPiece { template: Template, off: u16, len: u16 }
+    Addr { ip: u32, port: u16 }
+    TcpFlow { cl: Addr, sv: Addr, cl_seq: u32, sv_seq: u32 }
+    TcpSent { status: u8, flow: TcpFlow, first: usize, second: usize, third: usize }
+    TcpHeader { flow: TcpFlow, bytes: [u8; 20] }
+    Seq { is_set: bool, number: u32 }
+    Pushed { flow: TcpFlow, cl: Seq, sv: Seq }
+    UdpFlow { cl: Addr, sv: Addr }
+    Choices { other_source: bool, srcip: u32, frag_off: u16, csum: bool }
+    IcmpFlow { cl: u32, sv: u32, ping_seq: u16, pong_seq: u16 }
+    IcmpSent { status: u8, flow: IcmpFlow, length: usize }
+    Checked { status: u8, no_checksum: bool }
+    Key { saddr: u32, daddr: u32, id: u16 }
+    Assembly { key: Key, known: bool, total: usize, floor: usize, spoilt: bool }
+    Opened { status: u8, assembly: Assembly }
+    Taken { status: u8, outcome: u8, assembly: Assembly }
+    Packet { headroom: usize, end: usize }
+}

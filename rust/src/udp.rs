@@ -1,0 +1,89 @@
+//! UDP flows.
+
+use crate::address::{raw, socket};
+use crate::{Refusal, sys};
+use std::net::{Ipv4Addr, SocketAddrV4};
+
+/// Two ends. Each call writes one datagram to the start of `out` and answers its length. It refuses
+/// by 1, 3.
+///
+/// ```
+/// use wispbundle::{Choices, UdpFlow};
+///
+/// let flow = UdpFlow::new("10.0.0.1:1".parse().unwrap(), "10.0.0.2:2".parse().unwrap());
+/// let mut out = [0; 30];
+/// let choices = Choices { csum: true, ..Choices::default() };
+/// assert_eq!(flow.client_dgram(&[0xeb, 0xd4], choices, &mut out), Ok(30));
+/// assert_eq!(out[26..28], [0xff, 0xff]);
+/// ```
+#[derive(Copy, Clone, Debug, PartialEq, Eq)]
+pub struct UdpFlow {
+    pub cl: SocketAddrV4,
+    pub sv: SocketAddrV4,
+}
+
+/// What a datagram may have otherwise than by default: another source address, the whole 16-bit
+/// field of the IPv4 header, a computed checksum.
+#[derive(Copy, Clone, Debug, Default, PartialEq, Eq)]
+pub struct Choices {
+    pub srcip: Option<Ipv4Addr>,
+    pub frag_off: u16,
+    pub csum: bool,
+}
+
+impl Choices {
+    fn raw(self) -> sys::Choices {
+        sys::Choices {
+            other_source: self.srcip.is_some(),
+            srcip: self.srcip.map_or(0, u32::from),
+            frag_off: self.frag_off,
+            csum: self.csum,
+        }
+    }
+}
+
+impl UdpFlow {
+    pub fn new(cl: SocketAddrV4, sv: SocketAddrV4) -> Self {
+        // SAFETY: no pointer goes in.
+        let flow = unsafe { sys::wb_udp_new(raw(cl), raw(sv)) };
+        Self {
+            cl: socket(flow.cl),
+            sv: socket(flow.sv),
+        }
+    }
+
+    fn raw(&self) -> sys::UdpFlow {
+        sys::UdpFlow {
+            cl: raw(self.cl),
+            sv: raw(self.sv),
+        }
+    }
+
+    /// From the client to the server.
+    pub fn client_dgram(
+        &self,
+        bytes: &[u8],
+        choices: Choices,
+        out: &mut [u8],
+    ) -> Result<usize, Refusal> {
+        let (flow, from, count, given) = (self.raw(), bytes.as_ptr(), bytes.len(), choices.raw());
+        // SAFETY: both pointers and counts are those of slices, and `out` is borrowed alone.
+        Refusal::or_length(unsafe {
+            sys::wb_udp_client_dgram(flow, from, count, given, out.as_mut_ptr(), out.len())
+        })
+    }
+
+    /// From the server to the client.
+    pub fn server_dgram(
+        &self,
+        bytes: &[u8],
+        choices: Choices,
+        out: &mut [u8],
+    ) -> Result<usize, Refusal> {
+        let (flow, from, count, given) = (self.raw(), bytes.as_ptr(), bytes.len(), choices.raw());
+        // SAFETY: both pointers and counts are those of slices, and `out` is borrowed alone.
+        Refusal::or_length(unsafe {
+            sys::wb_udp_server_dgram(flow, from, count, given, out.as_mut_ptr(), out.len())
+        })
+    }
+}
