@@ -1,0 +1,242 @@
+//! Putting pieces together.
+
+mod common;
+use common::*;
+use wispbundle::{
+    Assembly, Good, MAP_BYTES, Outcome, PAYLOAD_BYTES, Record, Refusal, UdpDatagram, check,
+};
+
+const ORDERS: [[usize; 3]; 6] = [
+    [0, 1, 2],
+    [0, 2, 1],
+    [1, 0, 2],
+    [1, 2, 0],
+    [2, 0, 1],
+    [2, 1, 0],
+];
+
+struct Buffers {
+    payload: Vec<u8>,
+    map: Vec<u8>,
+}
+
+fn buffers() -> Buffers {
+    Buffers {
+        payload: vec![UNTOUCHED; PAYLOAD_BYTES],
+        map: vec![UNTOUCHED; MAP_BYTES],
+    }
+}
+
+fn open(b: &mut Buffers) -> Assembly<'_> {
+    Assembly::open(KEY, &mut b.payload, &mut b.map).unwrap()
+}
+
+fn fragment(payload: &[u8], off: u16, len: u16) -> Vec<u8> {
+    written(|out| template().fragment(payload, off, len, out))
+}
+
+fn new_record() -> Record {
+    Record {
+        key: KEY,
+        total: None,
+        floor: 0,
+        spoilt: false,
+    }
+}
+
+#[test]
+fn opening_zeroes_all_but_the_key() {
+    let mut b = buffers();
+    let assembly = open(&mut b);
+    assert_eq!(assembly.record(), new_record());
+    assert_eq!(assembly.held(), None);
+    assert!(b.payload.iter().chain(&b.map).all(|&byte| byte == 0));
+}
+
+#[test]
+fn opening_refuses_other_sizes() {
+    for (p, m) in [
+        (0, 0),
+        (65_514, 1024),
+        (65_516, 1024),
+        (65_515, 1023),
+        (65_515, 1025),
+    ] {
+        let (mut payload, mut map) = (vec![UNTOUCHED; p], vec![UNTOUCHED; m]);
+        let refusal = Assembly::open(KEY, &mut payload, &mut map).unwrap_err();
+        assert_eq!(refusal, Refusal::BadAssembly);
+        assert!(payload.iter().chain(&map).all(|&byte| byte == UNTOUCHED));
+    }
+}
+
+#[test]
+fn a_telemetry_datagram_in_all_six_orders() {
+    let udp = UdpDatagram {
+        csum: true,
+        ..UdpDatagram::new(CL, SV)
+    };
+    let packet = written(|out| udp.build(&counted(3480), out));
+    let sent = &packet[20..];
+    let pieces = [0, 185, 370].map(|off| fragment(sent, off, 185));
+    assert_eq!(pieces.each_ref().map(|p| p.len()), [1500, 1500, 548]);
+    for order in ORDERS {
+        let mut b = buffers();
+        let mut assembly = open(&mut b);
+        for (nth, i) in order.into_iter().enumerate() {
+            assert_eq!(assembly.held(), None);
+            let outcome = assembly.take(&pieces[i]).unwrap();
+            assert_eq!(
+                outcome,
+                if nth == 2 {
+                    Outcome::Complete
+                } else {
+                    Outcome::Waiting
+                }
+            );
+        }
+        assert_eq!(assembly.take(&pieces[1]), Ok(Outcome::Complete));
+        assert_eq!(assembly.held(), Some(sent));
+        assert_eq!(
+            (assembly.record().total, assembly.record().floor),
+            (Some(3488), 2961)
+        );
+        let whole = written(|out| template().datagram(assembly.held().unwrap(), out));
+        assert_eq!(check(&whole), Ok(Good::Checked));
+    }
+}
+
+#[test]
+fn a_piece_past_the_end_spoils_in_all_six_orders() {
+    let payload = counted(20);
+    let pieces = [(0, 1), (3, 1), (2, 1)].map(|(off, len)| fragment(&payload, off, len));
+    for order in ORDERS {
+        let mut b = buffers();
+        let mut assembly = open(&mut b);
+        let outcomes = order.map(|i| assembly.take(&pieces[i]).unwrap());
+        assert_eq!(outcomes[2], Outcome::Spoilt);
+        let spoilt = Record {
+            spoilt: true,
+            ..new_record()
+        };
+        assert_eq!((assembly.record(), assembly.held()), (spoilt, None));
+        assert!(b.payload.iter().chain(&b.map).all(|&byte| byte == 0));
+    }
+    let mut b = buffers();
+    let mut assembly = open(&mut b);
+    assert_eq!(assembly.take(&pieces[0]), Ok(Outcome::Waiting));
+    assert_eq!(assembly.take(&pieces[1]), Ok(Outcome::Waiting));
+}
+
+#[test]
+fn other_bytes_at_one_place_spoil() {
+    let (mut payload, mut b) = (counted(20), buffers());
+    let first = fragment(&payload, 0, 2);
+    payload[15] ^= 1;
+    let second = fragment(&payload, 1, 1);
+    let mut assembly = open(&mut b);
+    assert_eq!(assembly.take(&first), Ok(Outcome::Waiting));
+    assert_eq!(assembly.take(&second), Ok(Outcome::Spoilt));
+    assert_eq!(assembly.take(&first), Ok(Outcome::Spoilt));
+}
+
+#[test]
+fn empty_pieces_count() {
+    let (empty, some) = (fragment(&[], 0, 0), fragment(&[1; 8], 0, 0));
+    let mut b = buffers();
+    let mut assembly = open(&mut b);
+    assert_eq!(assembly.take(&empty), Ok(Outcome::Complete));
+    assert_eq!(assembly.held(), Some(&[][..]));
+    assert_eq!(assembly.take(&some), Ok(Outcome::Spoilt));
+}
+
+#[test]
+fn the_longest_datagram() {
+    let (payload, mut b) = (counted(65_515), buffers());
+    let whole = written(|out| template().datagram(&payload, out));
+    let mut assembly = open(&mut b);
+    assert_eq!(assembly.take(&whole), Ok(Outcome::Complete));
+    assert_eq!(assembly.held(), Some(&payload[..]));
+}
+
+#[test]
+fn each_refusal_leaves_all_as_it_was() {
+    let piece = fragment(&counted(24), 0, 2);
+    let mut unsummed = piece.clone();
+    unsummed[11] ^= 1;
+    let cases = [
+        (piece[..19].to_vec(), Refusal::Short),
+        (piece[..35].to_vec(), Refusal::Short),
+        (changed(piece.clone(), &[(0, 0x46)]), Refusal::NotIpv4),
+        (changed(piece.clone(), &[(3, 19)]), Refusal::BadTotal),
+        (unsummed, Refusal::BadHeader),
+        (changed(piece.clone(), &[(5, 8)]), Refusal::WrongKey),
+        (changed(piece.clone(), &[(12, 11)]), Refusal::WrongKey),
+        (changed(piece.clone(), &[(19, 3)]), Refusal::WrongKey),
+        (changed(piece.clone(), &[(3, 35)]), Refusal::NotBlocks),
+        (
+            changed(piece.clone(), &[(6, 0x1f), (7, 0xff)]),
+            Refusal::TooFar,
+        ),
+    ];
+    let mut b = buffers();
+    let mut assembly = open(&mut b);
+    assembly.take(&piece).unwrap();
+    let (record, payload, map) = (
+        assembly.record(),
+        assembly.payload().to_vec(),
+        assembly.map().to_vec(),
+    );
+    assert_eq!((record.floor, map[0]), (17, 3));
+    for (packet, why) in cases {
+        assert_eq!(assembly.take(&packet), Err(why));
+        assert_eq!((assembly.record(), assembly.held()), (record, None));
+        assert!(assembly.payload() == payload && assembly.map() == map);
+    }
+}
+
+#[test]
+fn records_that_no_assembly_has_are_refused() {
+    let piece = fragment(&counted(24), 0, 2);
+    let good = new_record();
+    for record in [
+        Record {
+            total: Some(65_516),
+            ..good
+        },
+        Record {
+            floor: 65_514,
+            ..good
+        },
+    ] {
+        let mut b = buffers();
+        let mut assembly = Assembly::resume(record, &mut b.payload, &mut b.map);
+        assert_eq!(assembly.take(&piece), Err(Refusal::BadAssembly));
+        assert_eq!(assembly.take(&[]), Err(Refusal::BadAssembly));
+        assert_eq!(assembly.record(), record);
+        assert!(
+            b.payload
+                .iter()
+                .chain(&b.map)
+                .all(|&byte| byte == UNTOUCHED)
+        );
+    }
+    for (p, m) in [(65_514, 1024), (65_515, 1025)] {
+        let (mut payload, mut map) = (vec![UNTOUCHED; p], vec![UNTOUCHED; m]);
+        let mut assembly = Assembly::resume(good, &mut payload, &mut map);
+        assert_eq!(assembly.take(&piece), Err(Refusal::BadAssembly));
+    }
+}
+
+#[test]
+fn an_assembly_can_be_left_and_resumed() {
+    let (payload, mut b) = (counted(24), buffers());
+    let mut assembly = open(&mut b);
+    assembly.take(&fragment(&payload, 2, 1)).unwrap();
+    let record = assembly.record();
+    let mut assembly = Assembly::resume(record, &mut b.payload, &mut b.map);
+    assert_eq!(
+        assembly.take(&fragment(&payload, 0, 2)),
+        Ok(Outcome::Complete)
+    );
+    assert_eq!(assembly.held(), Some(&payload[..]));
+}

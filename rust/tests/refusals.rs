@@ -1,0 +1,34 @@
+//! The numbers and words of refusals.
+
+use std::error::Error;
+use wispbundle::Refusal;
+
+#[test]
+fn numbers_run_from_1_to_17() {
+    for (i, refusal) in Refusal::ALL.into_iter().enumerate() {
+        assert_eq!(usize::from(refusal.number()), i + 1);
+        assert_eq!(Refusal::of_number(refusal.number()), Some(refusal));
+    }
+    for other in [0, 18, 255] {
+        assert_eq!(Refusal::of_number(other), None);
+    }
+}
+
+#[test]
+fn each_says_its_number_and_words() {
+    let shown = Refusal::NoRoom.to_string();
+    assert_eq!(
+        shown,
+        "refusal 3: the lent output is shorter than what is to be written"
+    );
+    for refusal in Refusal::ALL {
+        let start = format!("refusal {}: ", refusal.number());
+        assert_eq!(refusal.to_string(), start + refusal.words());
+    }
+}
+
+#[test]
+fn is_an_error() {
+    let boxed: Box<dyn Error> = Box::new(Refusal::BadTime);
+    assert_eq!(boxed.to_string(), "refusal 17: microseconds above 999,999");
+}
