@@ -1,1 +1,97 @@
-fn main() {}
+//! Random calls of the crate beside the same calls of resynth's Rust, or beside a model of document
+//! 01 where the Rust has none: every answer, every state and every byte, those behind a packet too.
+//!
+//! differential [SEED [CALLS]] makes at least so many calls, and differential SEED case NUMBER makes
+//! one case again.
+
+mod building;
+mod checking;
+mod damage;
+mod icmp;
+mod model;
+mod pieces;
+mod rng;
+mod run;
+mod sums;
+mod taking;
+mod tcp;
+mod udp;
+mod writing;
+
+use rng::Rng;
+use run::{Compared, Run};
+use std::process::ExitCode;
+use std::time::Instant;
+
+const SEED: u64 = 0x7769_7370;
+const CALLS: u64 = 1_000_000;
+
+const KINDS: [fn(&mut Run) -> Compared; 16] = [
+    sums::compare,
+    building::tcp,
+    building::icmp,
+    pieces::compare,
+    pieces::compare,
+    udp::compare,
+    udp::compare,
+    icmp::compare,
+    tcp::compare,
+    tcp::compare,
+    writing::dump,
+    writing::capture_header,
+    writing::capture_record,
+    checking::compare,
+    checking::compare,
+    taking_or_refused,
+];
+
+fn taking_or_refused(run: &mut Run) -> Compared {
+    match run.rng.once_in(16) {
+        true => taking::refused(run),
+        false => taking::compare(run),
+    }
+}
+
+fn one(run: &mut Run, seed: u64, case: u64) -> Compared {
+    run.rng = Rng::of_case(seed, case);
+    let kind = run.rng.pick(&KINDS);
+    kind(run)
+}
+
+fn report(run: &Run, start: Instant) {
+    for (what, count) in run.calls.iter().chain(&run.seen) {
+        println!("{count:9}  {what}");
+    }
+    for (number, count) in run.refusals.iter().enumerate().filter(|(_, n)| **n > 0) {
+        println!("{count:9}  refused by {number}");
+    }
+    println!("{} seconds", start.elapsed().as_secs());
+}
+
+fn number(words: &[String], at: usize, usual: u64) -> u64 {
+    words.get(at).map_or(usual, |word| {
+        word.parse()
+            .unwrap_or_else(|_| panic!("{word} is no number"))
+    })
+}
+
+fn main() -> ExitCode {
+    let words: Vec<String> = std::env::args().skip(1).collect();
+    let (mut run, start, seed) = (Run::new(), Instant::now(), number(&words, 0, SEED));
+    let again = words.get(1).is_some_and(|word| word == "case");
+    let calls = if again { 1 } else { number(&words, 1, CALLS) };
+    let mut case = if again { number(&words, 2, 0) } else { 0 };
+    while run.count() < calls {
+        if let Err(what) = one(&mut run, seed, case) {
+            println!("seed {seed}, case {case}: {what}");
+            return ExitCode::FAILURE;
+        }
+        case += 1;
+    }
+    report(&run, start);
+    println!(
+        "{} calls, 0 differ (seed {seed}, {case} cases)",
+        run.count()
+    );
+    ExitCode::SUCCESS
+}

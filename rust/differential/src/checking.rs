@@ -1,0 +1,19 @@
+//! The check of a finished packet beside the model.
+
+use crate::run::{Compared, Run};
+use crate::{damage, model};
+use wispbundle::{Good, check};
+
+pub fn compare(run: &mut Run) -> Compared {
+    let mut packet = damage::built(&mut run.rng);
+    if !run.rng.once_in(4) {
+        packet = damage::damaged(&mut run.rng, packet);
+    }
+    let answer = check(&packet);
+    run.saw(match answer {
+        Ok(Good::Checked) => "checked: good",
+        Ok(Good::WithoutChecksum) => "checked: good without checksum",
+        Err(_) => "checked: refused",
+    });
+    run.same("check", answer, model::check(&packet))
+}

@@ -1,0 +1,48 @@
+//! ICMP flows beside the Rust's.
+
+use crate::building::MAX_UDP;
+use crate::run::{Compared, Run, expected};
+use wispbundle::IcmpFlow;
+
+/// Two flows at the same numbers. The Rust's can only be counted up, so most start at 0, and some just
+/// below 65,536.
+fn draw(run: &mut Run) -> (IcmpFlow, ezpkt::icmp4::IcmpFlow) {
+    let mut ours = IcmpFlow::new(run.rng.addr(), run.rng.addr());
+    let mut rust = ezpkt::icmp4::IcmpFlow::new(ours.cl, ours.sv, true);
+    if run.rng.once_in(1000) {
+        ours.ping_seq = 65_534;
+        ours.pong_seq = 65_535;
+        (0..ours.ping_seq).for_each(|_| drop(rust.echo(&[])));
+        (0..ours.pong_seq).for_each(|_| drop(rust.echo_reply(&[])));
+    }
+    (ours, rust)
+}
+
+pub fn compare(run: &mut Run) -> Compared {
+    let (mut ours, mut rust) = draw(run);
+    for _ in 0..1 + run.rng.below(8) {
+        let size = run.rng.size(MAX_UDP);
+        let payload = run.rng.bytes(size);
+        let (room, reply, mut after) = (run.room(28 + size), run.rng.flip(), ours);
+        let packet = expected((size, MAX_UDP), 0, (room, 28 + size), || match reply {
+            false => {
+                after.ping_seq = after.ping_seq.wrapping_add(1);
+                rust.echo(&payload).to_vec()
+            }
+            true => {
+                after.pong_seq = after.pong_seq.wrapping_add(1);
+                rust.echo_reply(&payload).to_vec()
+            }
+        });
+        match reply {
+            false => run.writes_one("icmp echo", room, packet, |out| ours.echo(&payload, out))?,
+            true => run.writes_one("icmp echo_reply", room, packet, |out| {
+                ours.echo_reply(&payload, out)
+            })?,
+        }
+        if ours != after {
+            return Err(format!("icmp: {ours:?} and not {after:?}"));
+        }
+    }
+    Ok(())
+}

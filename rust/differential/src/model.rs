@@ -1,0 +1,183 @@
+//! Document 01's check and assembly, written anew and in another way: bytes and whole pieces, no
+//! blocks tested and no floor.
+
+use wispbundle::{Good, Key, MAP_BYTES, Outcome, PAYLOAD_BYTES, Record, Refusal};
+
+fn be16(bytes: &[u8], at: usize) -> usize {
+    usize::from(bytes[at]) << 8 | usize::from(bytes[at + 1])
+}
+
+/// RFC 1071 word by word, folding at every step.
+fn verifies(parts: &[&[u8]]) -> bool {
+    let mut sum = 0_u32;
+    for part in parts {
+        for pair in part.chunks(2) {
+            sum += u32::from(pair[0]) << 8 | pair.get(1).map_or(0, |&low| u32::from(low));
+            sum = (sum & 0xffff) + (sum >> 16);
+        }
+    }
+    sum == 0xffff
+}
+
+/// The packet up to its total length: 4 (under 20), 5, 6, 4 (total), 7.
+fn read(packet: &[u8]) -> Result<&[u8], Refusal> {
+    if packet.len() < 20 {
+        return Err(Refusal::Short);
+    }
+    let total = be16(packet, 2);
+    match () {
+        _ if packet[0] != 0x45 => Err(Refusal::NotIpv4),
+        _ if total < 20 => Err(Refusal::BadTotal),
+        _ if packet.len() < total => Err(Refusal::Short),
+        _ if !verifies(&[&packet[..20]]) => Err(Refusal::BadHeader),
+        _ => Ok(&packet[..total]),
+    }
+}
+
+pub fn check(packet: &[u8]) -> Result<Good, Refusal> {
+    let packet = read(packet)?;
+    let (data, protocol) = (&packet[20..], packet[9]);
+    if be16(packet, 6) & 0x3fff != 0 {
+        return Err(Refusal::Piece);
+    }
+    let cut = match protocol {
+        1 => data.len() < 8,
+        6 => data.len() < 20 || data[12] != 0x50,
+        17 => data.len() < 8 || be16(data, 4) != data.len(),
+        _ => return Err(Refusal::OtherProtocol),
+    };
+    let length = (data.len() as u16).to_be_bytes();
+    let pseudo = [&packet[12..20], &[0, protocol], &length].concat();
+    match () {
+        _ if cut => Err(Refusal::Cut),
+        _ if protocol == 17 && be16(data, 6) == 0 => Ok(Good::WithoutChecksum),
+        _ if protocol == 1 && !verifies(&[data]) => Err(Refusal::BadSum),
+        _ if protocol != 1 && !verifies(&[&pseudo, data]) => Err(Refusal::BadSum),
+        _ => Ok(Good::Checked),
+    }
+}
+
+/// A piece that was accepted.
+struct Piece {
+    start: usize,
+    data: Vec<u8>,
+    more: bool,
+}
+
+impl Piece {
+    fn end(&self) -> usize {
+        self.start + self.data.len()
+    }
+
+    /// 4, 5, 6, 4, 7, 8, 9, 10.
+    fn read(key: Key, packet: &[u8]) -> Result<Self, Refusal> {
+        let packet = read(packet)?;
+        let field = be16(packet, 6);
+        let named = [&key.src.octets()[..], &key.dst.octets()].concat();
+        let piece = Self {
+            start: 8 * (field & 0x1fff),
+            data: packet[20..].to_vec(),
+            more: field & 0x2000 != 0,
+        };
+        match () {
+            _ if packet[12..20] != named || be16(packet, 4) != usize::from(key.id) => {
+                Err(Refusal::WrongKey)
+            }
+            _ if piece.more && piece.data.len() % 8 != 0 => Err(Refusal::NotBlocks),
+            _ if piece.end() > PAYLOAD_BYTES => Err(Refusal::TooFar),
+            _ => Ok(piece),
+        }
+    }
+
+    /// Whether two pieces hold different bytes at one place, or their ends cannot both be.
+    fn contradicts(&self, other: &Self) -> bool {
+        let (from, to) = (self.start.max(other.start), self.end().min(other.end()));
+        let bytes = from < to
+            && self.data[from - self.start..to - self.start]
+                != other.data[from - other.start..to - other.start];
+        bytes
+            || match (self.more, other.more) {
+                (false, false) => self.end() != other.end(),
+                (true, false) => self.end() >= other.end(),
+                (false, true) => other.end() >= self.end(),
+                (true, true) => false,
+            }
+    }
+}
+
+/// An assembly as the list of the pieces that it accepted.
+pub struct Assembly {
+    key: Key,
+    pieces: Vec<Piece>,
+    spoilt: bool,
+    pub payload: Vec<u8>,
+    pub map: Vec<u8>,
+}
+
+impl Assembly {
+    pub fn open(key: Key) -> Self {
+        Self {
+            key,
+            pieces: Vec::new(),
+            spoilt: false,
+            payload: vec![0; PAYLOAD_BYTES],
+            map: vec![0; MAP_BYTES],
+        }
+    }
+
+    pub fn record(&self) -> Record {
+        let last = self.pieces.iter().find(|p| !p.more);
+        let ends = self.pieces.iter().filter(|p| p.more).map(Piece::end);
+        Record {
+            key: self.key,
+            total: last.map(Piece::end),
+            floor: ends.max().map_or(0, |end| end + 1),
+            spoilt: self.spoilt,
+        }
+    }
+
+    /// Whether the pieces leave no gap below the total.
+    fn is_complete(&self) -> bool {
+        let Some(total) = self.record().total else {
+            return false;
+        };
+        let mut spans: Vec<_> = self.pieces.iter().map(|p| (p.start, p.end())).collect();
+        spans.sort();
+        let reach = |held, (start, end): (usize, usize)| match start <= held {
+            true => end.max(held),
+            false => held,
+        };
+        spans.into_iter().fold(0, reach) >= total
+    }
+
+    fn spoil(&mut self) {
+        self.pieces.clear();
+        self.spoilt = true;
+        self.payload.fill(0);
+        self.map.fill(0);
+    }
+
+    fn keep(&mut self, piece: Piece) {
+        self.payload[piece.start..piece.end()].copy_from_slice(&piece.data);
+        for byte in piece.start..piece.end() {
+            let block = byte / 8;
+            self.map[block / 8] |= 1 << (block % 8);
+        }
+        self.pieces.push(piece);
+    }
+
+    pub fn take(&mut self, packet: &[u8]) -> Result<Outcome, Refusal> {
+        let piece = Piece::read(self.key, packet)?;
+        if !self.spoilt {
+            match self.pieces.iter().any(|other| other.contradicts(&piece)) {
+                true => self.spoil(),
+                false => self.keep(piece),
+            }
+        }
+        Ok(match () {
+            _ if self.spoilt => Outcome::Spoilt,
+            _ if self.is_complete() => Outcome::Complete,
+            _ => Outcome::Waiting,
+        })
+    }
+}

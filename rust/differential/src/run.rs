@@ -1,0 +1,131 @@
+//! One run: what is drawn, what was compared so far, and the comparison itself.
+
+use crate::rng::Rng;
+use std::collections::BTreeMap;
+use std::fmt::Debug;
+use wispbundle::Refusal;
+
+/// What differed, in words.
+pub type Compared = Result<(), String>;
+
+pub struct Run {
+    pub rng: Rng,
+    pub calls: BTreeMap<&'static str, u64>,
+    pub refusals: [u64; 18],
+    pub seen: BTreeMap<&'static str, u64>,
+}
+
+/// The byte at a place of a buffer before a call.
+fn pattern(at: usize) -> u8 {
+    (at.wrapping_mul(31) ^ 0xa5) as u8
+}
+
+impl Run {
+    pub fn new() -> Self {
+        Self {
+            rng: Rng::of_case(0, 0),
+            calls: BTreeMap::new(),
+            refusals: [0; 18],
+            seen: BTreeMap::new(),
+        }
+    }
+
+    pub fn count(&self) -> u64 {
+        self.calls.values().sum()
+    }
+
+    /// Counts an answer that is worth a line of its own.
+    pub fn saw(&mut self, what: &'static str) {
+        *self.seen.entry(what).or_default() += 1;
+    }
+
+    /// Counts a call, and compares what it answered.
+    pub fn same<T: PartialEq + Debug>(
+        &mut self,
+        kind: &'static str,
+        got: Result<T, Refusal>,
+        expected: Result<T, Refusal>,
+    ) -> Compared {
+        *self.calls.entry(kind).or_default() += 1;
+        if let Err(refusal) = got {
+            self.refusals[usize::from(refusal.number())] += 1;
+        }
+        match got == expected {
+            true => Ok(()),
+            false => Err(format!("{kind}: {got:?} and not {expected:?}")),
+        }
+    }
+
+    /// Room for `n` bytes: often just enough, at times too little, mostly more.
+    pub fn room(&mut self, n: usize) -> usize {
+        match self.rng.below(16) {
+            0 | 1 => n.saturating_sub(1),
+            2 => self.rng.below(n + 1),
+            3..=6 => n,
+            _ => n + self.rng.below(64),
+        }
+    }
+
+    /// Makes a call that writes packets end to end into `room` bytes. Compares where each ends, every
+    /// byte of them, and the bytes behind, which keep the pattern; all of them do on a refusal.
+    pub fn writes<const N: usize>(
+        &mut self,
+        kind: &'static str,
+        room: usize,
+        expected: Result<[Vec<u8>; N], Refusal>,
+        call: impl FnOnce(&mut [u8]) -> Result<[usize; N], Refusal>,
+    ) -> Compared {
+        let mut out: Vec<u8> = (0..room).map(pattern).collect();
+        let got = call(&mut out);
+        let packets = expected.as_ref().map_or(Vec::new(), |p| p.concat());
+        let ends = expected.map(|packets| {
+            let mut end = 0;
+            packets.map(|p| {
+                end += p.len();
+                end
+            })
+        });
+        self.same(kind, got, ends)?;
+        if out[..packets.len()] != packets {
+            return Err(format!("{kind}: other bytes in a packet"));
+        }
+        match (packets.len()..room).find(|&at| out[at] != pattern(at)) {
+            None => Ok(()),
+            Some(at) => Err(format!(
+                "{kind}: byte {at} behind the packet was written to"
+            )),
+        }
+    }
+
+    /// The same for one packet.
+    pub fn writes_one(
+        &mut self,
+        kind: &'static str,
+        room: usize,
+        expected: Result<Vec<u8>, Refusal>,
+        call: impl FnOnce(&mut [u8]) -> Result<usize, Refusal>,
+    ) -> Compared {
+        self.writes(kind, room, expected.map(|p| [p]), |out| {
+            call(out).map(|n| [n])
+        })
+    }
+}
+
+/// What building answers by document 01: 1, 2, 3 in this order, and else the Rust's packets, which are
+/// `n` bytes together.
+pub fn expected<T>(
+    (size, limit): (usize, usize),
+    offset: u16,
+    (room, n): (usize, usize),
+    rust: impl FnOnce() -> T,
+) -> Result<T, Refusal> {
+    if size > limit {
+        Err(Refusal::TooLong)
+    } else if offset > 8191 {
+        Err(Refusal::BadOffset)
+    } else if room < n {
+        Err(Refusal::NoRoom)
+    } else {
+        Ok(rust())
+    }
+}

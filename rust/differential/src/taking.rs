@@ -1,0 +1,138 @@
+//! Assemblies beside the model: pieces in any order, again, damaged, and contradicting each other.
+
+use crate::rng::Rng;
+use crate::run::{Compared, Run};
+use crate::{damage, model, pieces};
+use wispbundle::{Assembly, Key, MAP_BYTES, Outcome, PAYLOAD_BYTES, Record, Refusal, Template};
+
+/// One piece of the payload, mostly one of the cuts at every `len` blocks.
+fn piece(rng: &mut Rng, template: &Template, payload: &[u8], len: u16) -> Vec<u8> {
+    let blocks = (payload.len() / 8) as u16;
+    let (off, len) = match rng.below(12) {
+        0 => (
+            rng.below(usize::from(blocks) + 3) as u16,
+            rng.below(6) as u16,
+        ),
+        1 => (rng.pick(&[8188, 8189, 8190, 8191]), len),
+        _ => (len * rng.below(usize::from(blocks / len) + 1) as u16, len),
+    };
+    let mut out = vec![0; 20 + payload.len()];
+    let n = template.fragment(payload, off.min(8191), len, &mut out);
+    out.truncate(n.expect("there is room"));
+    out
+}
+
+/// What is taken: mostly a piece as it was cut, and else one with other bytes, or damaged.
+fn packet(rng: &mut Rng, template: &Template, payload: &[u8], len: u16, odd: bool) -> Vec<u8> {
+    let mut packet = piece(rng, template, payload, len);
+    let last = packet.len() - 1;
+    match rng.below(16) {
+        0 if odd && last >= 20 => packet[last] ^= 1,
+        1 | 2 if odd => packet = damage::damaged(rng, packet),
+        3 => packet.extend([rng.u8(); 3]),
+        _ => {}
+    }
+    packet
+}
+
+fn key(template: &Template) -> Key {
+    Key {
+        src: template.src,
+        dst: template.dst,
+        id: template.id,
+    }
+}
+
+fn name(outcome: Result<Outcome, Refusal>) -> &'static str {
+    match outcome {
+        Ok(Outcome::Waiting) => "taken: waiting",
+        Ok(Outcome::Complete) => "taken: complete",
+        Ok(Outcome::Spoilt) => "taken: spoilt",
+        Err(_) => "taken: refused",
+    }
+}
+
+/// Compares the answer, the record and every byte of both buffers, a refusal's too.
+pub fn compare(run: &mut Run) -> Compared {
+    let template = pieces::draw(&mut run.rng);
+    let size = run.rng.size(PAYLOAD_BYTES).min(PAYLOAD_BYTES);
+    let payload = run.rng.bytes(size);
+    let at_most = (size / 16).max(1);
+    let (len, odd) = (1 + run.rng.below(at_most) as u16, run.rng.flip());
+    let (mut held, mut map) = (vec![0xa5; PAYLOAD_BYTES], vec![0x5a; MAP_BYTES]);
+    let opened = Assembly::open(key(&template), &mut held, &mut map);
+    run.same(
+        "assembly open",
+        opened.as_ref().map_err(|e| *e).map(|a| a.record()),
+        Ok(record(&template)),
+    )?;
+    let mut ours = opened.expect("it was compared");
+    let mut model = model::Assembly::open(key(&template));
+    for _ in 0..1 + run.rng.below(12) {
+        let packet = packet(&mut run.rng, &template, &payload, len, odd);
+        let outcome = ours.take(&packet);
+        run.same("assembly take", outcome, model.take(&packet))?;
+        run.saw(name(outcome));
+        same_state(&ours, &model)?;
+    }
+    Ok(())
+}
+
+fn record(template: &Template) -> Record {
+    Record {
+        key: key(template),
+        total: None,
+        floor: 0,
+        spoilt: false,
+    }
+}
+
+fn same_state(ours: &Assembly, model: &model::Assembly) -> Compared {
+    if ours.record() != model.record() {
+        let (got, expected) = (ours.record(), model.record());
+        return Err(format!("assembly take: {got:?} and not {expected:?}"));
+    }
+    match (ours.payload() == model.payload, ours.map() == model.map) {
+        (true, true) => Ok(()),
+        (false, _) => Err("assembly take: other bytes in the payload".to_string()),
+        (_, false) => Err("assembly take: other bits in the map".to_string()),
+    }
+}
+
+/// Records and buffers that no assembly has: refused by 11, whatever the packet is.
+pub fn refused(run: &mut Run) -> Compared {
+    let template = pieces::draw(&mut run.rng);
+    let good = record(&template);
+    let above = run.rng.pick(&[1, 2, 1000, usize::MAX - PAYLOAD_BYTES]);
+    let (mut record, mut p, mut m) = (good, PAYLOAD_BYTES, MAP_BYTES);
+    match run.rng.below(4) {
+        0 => record.total = Some(PAYLOAD_BYTES + above),
+        1 => record.floor = PAYLOAD_BYTES - 2 + above,
+        2 => {
+            p = run
+                .rng
+                .pick(&[0, 1, 1024, PAYLOAD_BYTES - 1, PAYLOAD_BYTES + 1])
+        }
+        _ => m = run.rng.pick(&[0, 1, 1023, 1025, PAYLOAD_BYTES]),
+    }
+    record.spoilt = run.rng.once_in(4);
+    let packet = packet(&mut run.rng, &template, &[7; 64], 1, true);
+    let (mut held, mut map) = (vec![0xa5; p], vec![0x5a; m]);
+    if (p, m) != (PAYLOAD_BYTES, MAP_BYTES) {
+        let opened = Assembly::open(good.key, &mut held, &mut map).map(|_| ());
+        run.same("assembly open", opened, Err(Refusal::BadAssembly))?;
+    }
+    let mut ours = Assembly::resume(record, &mut held, &mut map);
+    run.same(
+        "assembly take",
+        ours.take(&packet),
+        Err(Refusal::BadAssembly),
+    )?;
+    let untouched = ours.record() == record
+        && ours.payload().iter().all(|&b| b == 0xa5)
+        && ours.map().iter().all(|&b| b == 0x5a);
+    match untouched {
+        true => Ok(()),
+        false => Err("assembly: a refusal left something else behind".to_string()),
+    }
+}

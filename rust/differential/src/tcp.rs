@@ -1,0 +1,191 @@
+//! TCP flows beside the Rust's, several calls on each.
+
+use crate::building::MAX_TCP;
+use crate::run::{Compared, Run, expected};
+use pkt::Packet;
+use wispbundle::{Refusal, TcpFlow};
+
+struct Pair {
+    ours: TcpFlow,
+    rust: ezpkt::tcp4::TcpFlow,
+}
+
+fn three(packets: Vec<Packet>) -> [Vec<u8>; 3] {
+    let bytes: Vec<_> = packets.iter().map(Packet::to_vec).collect();
+    bytes.try_into().expect("three packets")
+}
+
+/// A packet and the acknowledgment behind it, which may be missing.
+fn message(packets: Vec<Packet>) -> [Vec<u8>; 2] {
+    let mut bytes = packets.iter().map(Packet::to_vec);
+    [
+        bytes.next().expect("one packet"),
+        bytes.next().unwrap_or_default(),
+    ]
+}
+
+impl Pair {
+    fn draw(run: &mut Run) -> Self {
+        let (cl, sv) = (run.rng.socket(), run.rng.socket());
+        let (a, b) = (run.rng.near_wrap(), run.rng.near_wrap());
+        Self {
+            ours: TcpFlow::new(cl, sv, a, b),
+            rust: ezpkt::tcp4::TcpFlow::new(cl, sv, a, b, true),
+        }
+    }
+
+    /// Compares both numbers, and that nothing else of either flow has changed.
+    fn same_state(&mut self) -> Compared {
+        let ours = self.ours;
+        let same = ezpkt::tcp4::TcpFlow::new(ours.cl, ours.sv, ours.cl_seq, ours.sv_seq, true);
+        match self.rust == same {
+            true => Ok(()),
+            false => Err(format!("tcp: {ours:?} and not {:?}", self.rust)),
+        }
+    }
+
+    fn handshake(&mut self, run: &mut Run) -> Compared {
+        let room = run.room(120);
+        let fits = |rust: &mut dyn FnMut() -> Vec<Packet>| {
+            expected((0, 0), 0, (room, 120), || three(rust()))
+        };
+        let (ours, rust) = (&mut self.ours, &mut self.rust);
+        match run.rng.below(3) {
+            0 => {
+                let rust = fits(&mut || rust.open());
+                run.writes("tcp open", room, rust, |out| ours.open(out))
+            }
+            1 => {
+                let rust = fits(&mut || rust.client_close());
+                run.writes("tcp client_close", room, rust, |out| ours.client_close(out))
+            }
+            _ => {
+                let rust = fits(&mut || rust.server_close());
+                run.writes("tcp server_close", room, rust, |out| ours.server_close(out))
+            }
+        }
+    }
+
+    fn bare(&mut self, run: &mut Run) -> Compared {
+        let room = run.room(40);
+        let fits = |rust: Packet| expected((0, 0), 0, (room, 40), || rust.to_vec());
+        let (ours, rust) = (&mut self.ours, &self.rust);
+        match run.rng.below(4) {
+            0 => run.writes_one("tcp client_reset", room, fits(rust.client_reset()), |out| {
+                ours.client_reset(out)
+            }),
+            1 => run.writes_one("tcp server_reset", room, fits(rust.server_reset()), |out| {
+                ours.server_reset(out)
+            }),
+            2 => run.writes_one(
+                "tcp client_ack",
+                room,
+                fits(rust.client_ack().into()),
+                |out| ours.client_ack(out),
+            ),
+            _ => run.writes_one(
+                "tcp server_ack",
+                room,
+                fits(rust.server_ack().into()),
+                |out| ours.server_ack(out),
+            ),
+        }
+    }
+
+    fn segment(&mut self, run: &mut Run) -> Compared {
+        let size = run.rng.size(MAX_TCP);
+        let (payload, n) = (run.rng.bytes(size), 40 + size);
+        let (room, server) = (run.room(n), run.rng.flip());
+        let (ours, rust) = (&mut self.ours, &mut self.rust);
+        let packet = expected((size, MAX_TCP), 0, (room, n), || {
+            Packet::from(match server {
+                false => rust.client_data_segment(&payload),
+                true => rust.server_data_segment(&payload),
+            })
+            .to_vec()
+        });
+        match server {
+            false => run.writes_one("tcp client_data_segment", room, packet, |out| {
+                ours.client_data_segment(&payload, out)
+            }),
+            true => run.writes_one("tcp server_data_segment", room, packet, |out| {
+                ours.server_data_segment(&payload, out)
+            }),
+        }
+    }
+
+    fn message(&mut self, run: &mut Run) -> Compared {
+        let size = run.rng.size(MAX_TCP);
+        let (payload, ack, server) = (run.rng.bytes(size), run.rng.flip(), run.rng.flip());
+        let n = 40 + size + if ack { 40 } else { 0 };
+        let (room, field) = (run.room(n), run.rng.u16());
+        let (ours, rust) = (&mut self.ours, &mut self.rust);
+        let packets = expected((size, MAX_TCP), 0, (room, n), || {
+            message(match server {
+                false => rust.client_message(&payload, ack, field),
+                true => rust.server_message(&payload, ack, field),
+            })
+        });
+        let ends = |m: wispbundle::Message| [m.end, m.ack_end.unwrap_or(m.end)];
+        match server {
+            false => run.writes("tcp client_message", room, packets, |out| {
+                ours.client_message(&payload, ack, field, out).map(ends)
+            }),
+            true => run.writes("tcp server_message", room, packets, |out| {
+                ours.server_message(&payload, ack, field, out).map(ends)
+            }),
+        }
+    }
+
+    fn without_packets(&mut self, run: &mut Run) -> Compared {
+        let (a, b, csum) = (run.rng.near_wrap(), run.rng.near_wrap(), run.rng.u16());
+        let (cl, sv) = (run.rng.flip().then_some(a), run.rng.flip().then_some(b));
+        let (ours, rust) = (&mut self.ours, &mut self.rust);
+        type Never<T> = Result<T, Refusal>;
+        match run.rng.below(6) {
+            0 => run.same(
+                "tcp client_hole",
+                Ok(ours.client_hole(a)),
+                Ok(rust.client_hole(a)),
+            ),
+            1 => run.same(
+                "tcp server_hole",
+                Ok(ours.server_hole(a)),
+                Ok(rust.server_hole(a)),
+            ),
+            2 => {
+                let got: Never<Vec<u8>> = Ok(ours.client_hdr(a, csum).to_vec());
+                run.same("tcp client_hdr", got, Ok(rust.client_hdr(a, csum)))
+            }
+            3 => {
+                let got: Never<Vec<u8>> = Ok(ours.server_hdr(a, csum).to_vec());
+                run.same("tcp server_hdr", got, Ok(rust.server_hdr(a, csum)))
+            }
+            4 => run.same(
+                "tcp push_state",
+                Ok(ours.push_state(cl, sv)),
+                Ok(rust.push_state(cl, sv)),
+            ),
+            _ => run.same(
+                "tcp pop_state",
+                Ok(ours.pop_state((cl, sv))),
+                Ok(rust.pop_state((cl, sv))),
+            ),
+        }
+    }
+}
+
+pub fn compare(run: &mut Run) -> Compared {
+    let mut pair = Pair::draw(run);
+    for _ in 0..1 + run.rng.below(8) {
+        match run.rng.below(5) {
+            0 => pair.handshake(run)?,
+            1 => pair.bare(run)?,
+            2 => pair.segment(run)?,
+            3 => pair.message(run)?,
+            _ => pair.without_packets(run)?,
+        }
+        pair.same_state()?;
+    }
+    Ok(())
+}

@@ -1,0 +1,71 @@
+//! UDP datagrams, as a flow's and as a request, beside the Rust's flow.
+
+use crate::building::MAX_UDP;
+use crate::run::{Compared, Run, expected};
+use pkt::Packet;
+use std::net::SocketAddrV4;
+use wispbundle::{Choices, UdpDatagram, UdpFlow};
+
+fn rust_dgram(flow: &UdpFlow, server: bool, payload: &[u8], choices: Choices) -> Vec<u8> {
+    let mut rust = ezpkt::udp4::UdpFlow::new(flow.cl, flow.sv, true);
+    let mut dgram = match server {
+        false => rust.client_dgram(payload),
+        true => rust.server_dgram(payload),
+    };
+    if let Some(src) = choices.srcip {
+        dgram = dgram.srcip(src);
+    }
+    dgram = dgram.frag_off(choices.frag_off);
+    if choices.csum {
+        dgram = dgram.csum();
+    }
+    Packet::from(dgram).to_vec()
+}
+
+/// The request for the same datagram.
+fn request(flow: &UdpFlow, server: bool, choices: Choices) -> UdpDatagram {
+    let (src, dst) = match server {
+        false => (flow.cl, flow.sv),
+        true => (flow.sv, flow.cl),
+    };
+    let ip = choices.srcip.unwrap_or(*src.ip());
+    UdpDatagram {
+        src: SocketAddrV4::new(ip, src.port()),
+        dst,
+        frag_off: choices.frag_off,
+        csum: choices.csum,
+    }
+}
+
+pub fn compare(run: &mut Run) -> Compared {
+    let size = run.rng.size(MAX_UDP);
+    let mut payload = run.rng.bytes(size);
+    let flow = UdpFlow::new(run.rng.socket(), run.rng.socket());
+    let server = run.rng.flip();
+    let choices = Choices {
+        srcip: run.rng.flip().then_some(run.rng.addr()),
+        frag_off: if run.rng.flip() { run.rng.u16() } else { 0 },
+        csum: run.rng.flip(),
+    };
+    if (2..=MAX_UDP).contains(&size) && choices.csum && run.rng.once_in(8) {
+        payload[..2].fill(0);
+        let bare = rust_dgram(&flow, server, &payload, choices);
+        payload[..2].copy_from_slice(&bare[26..28]);
+    }
+    let room = run.room(28 + size);
+    let rust = expected((size, MAX_UDP), 0, (room, 28 + size), || {
+        rust_dgram(&flow, server, &payload, choices)
+    });
+    if run.rng.flip() {
+        let request = request(&flow, server, choices);
+        return run.writes_one("build udp", room, rust, |out| request.build(&payload, out));
+    }
+    match server {
+        false => run.writes_one("udp client_dgram", room, rust, |out| {
+            flow.client_dgram(&payload, choices, out)
+        }),
+        true => run.writes_one("udp server_dgram", room, rust, |out| {
+            flow.server_dgram(&payload, choices, out)
+        }),
+    }
+}
