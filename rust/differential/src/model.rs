@@ -83,7 +83,7 @@ impl Piece {
             _ if packet[12..20] != named || be16(packet, 4) != usize::from(key.id) => {
                 Err(Refusal::WrongKey)
             }
-            _ if piece.more && piece.data.len() % 8 != 0 => Err(Refusal::NotBlocks),
+            _ if piece.more && !piece.data.len().is_multiple_of(8) => Err(Refusal::NotBlocks),
             _ if piece.end() > PAYLOAD_BYTES => Err(Refusal::TooFar),
             _ => Ok(piece),
         }

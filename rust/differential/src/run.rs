@@ -39,6 +39,12 @@ impl Run {
         *self.seen.entry(what).or_default() += 1;
     }
 
+    /// Counts a call that answers nothing; what it changed is compared elsewhere.
+    pub fn made(&mut self, kind: &'static str) -> Compared {
+        *self.calls.entry(kind).or_default() += 1;
+        Ok(())
+    }
+
     /// Counts a call, and compares what it answered.
     pub fn same<T: PartialEq + Debug>(
         &mut self,
@@ -46,7 +52,7 @@ impl Run {
         got: Result<T, Refusal>,
         expected: Result<T, Refusal>,
     ) -> Compared {
-        *self.calls.entry(kind).or_default() += 1;
+        self.made(kind)?;
         if let Err(refusal) = got {
             self.refusals[usize::from(refusal.number())] += 1;
         }
