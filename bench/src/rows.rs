@@ -1,0 +1,110 @@
+//! The rows of the table, and the goals.
+
+use crate::measure::{Effort, best};
+use crate::subjects::{self, Order, Subject};
+
+/// Nanoseconds for a call.
+pub struct Row {
+    pub name: &'static str,
+    pub ours: f64,
+    pub rust: Option<f64>,
+    pub copy: f64,
+}
+
+pub fn measured(name: &'static str, subject: Subject, effort: Effort) -> Row {
+    let all = [Some(subject.ours), subject.rust, Some(subject.copy)];
+    let [ours, rust, copy] = best(all, effort);
+    Row {
+        name,
+        ours: ours.expect("it was measured"),
+        rust,
+        copy: copy.expect("it was measured"),
+    }
+}
+
+/// Three pieces: 1,480, 1,480 and 528 bytes.
+const WHOLE: usize = 3488;
+const BLOCKS: u16 = 185;
+
+pub fn all(effort: Effort) -> Vec<Row> {
+    let rows: [(&str, fn() -> Subject); 11] = [
+        ("checksum of 20 bytes", || subjects::checksum(20)),
+        ("checksum of 1,500 bytes", || subjects::checksum(1500)),
+        ("checksum of 3,488 bytes", || subjects::checksum(3488)),
+        ("checksum of 65,515 bytes", || subjects::checksum(65_515)),
+        ("build UDP, 3,480 bytes, checksum", || {
+            subjects::build_udp(3480)
+        }),
+        ("cut 3,488 bytes in three", || subjects::cut(WHOLE, BLOCKS)),
+        ("open an assembly", subjects::open),
+        ("take three pieces in order", || {
+            subjects::take(WHOLE, BLOCKS, Order::Cut)
+        }),
+        ("take three pieces reversed", || {
+            subjects::take(WHOLE, BLOCKS, Order::Reversed)
+        }),
+        ("take three pieces again", || {
+            subjects::take(WHOLE, BLOCKS, Order::Again)
+        }),
+        ("check UDP, 3,480 bytes", || subjects::check(3480)),
+    ];
+    let measure = |(name, subject): (_, fn() -> Subject)| measured(name, subject(), effort);
+    rows.map(measure).into_iter().collect()
+}
+
+fn show(ns: f64) -> String {
+    match ns {
+        ..10.0 => format!("{ns:.1}"),
+        _ => format!("{ns:.0}"),
+    }
+}
+
+pub fn table(rows: &[Row]) -> String {
+    let mut text = String::from(
+        "| call | here, ns | the Rust, ns | memcpy, ns | here / Rust | here / memcpy |\n",
+    );
+    text += "|---|---:|---:|---:|---:|---:|\n";
+    for row in rows {
+        let rust = row.rust.map_or("–".to_string(), show);
+        let ratio = row
+            .rust
+            .map_or("–".to_string(), |r| format!("{:.2}", row.ours / r));
+        let copied = row.ours / row.copy;
+        text += &format!(
+            "| {} | {} | {rust} | {} | {ratio} | {copied:.1} |\n",
+            row.name,
+            show(row.ours),
+            show(row.copy)
+        );
+    }
+    text
+}
+
+fn verdict(met: bool) -> &'static str {
+    if met { "met" } else { "missed" }
+}
+
+/// Building and cutting no slower than the Rust, taking within ten times a memcpy.
+pub fn goals(rows: &[Row]) -> String {
+    let mut text = String::new();
+    for row in rows {
+        let begins = |word| row.name.starts_with(word);
+        if let Some(rust) = row.rust.filter(|_| begins("build") || begins("cut")) {
+            let ratio = row.ours / rust;
+            let met = verdict(ratio <= 1.0);
+            text += &format!(
+                "- {}: {ratio:.2} of the Rust's time, goal 1: {met}\n",
+                row.name
+            );
+        }
+        if begins("take three pieces in") || begins("take three pieces rev") {
+            let ratio = row.ours / row.copy;
+            let met = verdict(ratio <= 10.0);
+            text += &format!(
+                "- {}: {ratio:.1} times a memcpy, goal 10: {met}\n",
+                row.name
+            );
+        }
+    }
+    text
+}
