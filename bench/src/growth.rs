@@ -15,15 +15,18 @@ pub struct Curve {
     pub rows: Vec<Row>,
 }
 
+/// A curve's name, and what is measured at each size.
+type Named = (&'static str, fn(usize) -> Subject);
+
 pub fn all(effort: Effort) -> Vec<Curve> {
-    let kinds: [(&str, fn(usize) -> Subject); 5] = [
+    let kinds: [Named; 5] = [
         ("checksum", subjects::checksum),
         ("build UDP", subjects::build_udp),
         ("cut (one piece)", |n| subjects::cut(n, ALL)),
         ("take (one piece)", |n| subjects::take(n, ALL, Order::Cut)),
         ("check", subjects::check),
     ];
-    let curve = |(name, subject): (_, fn(usize) -> Subject)| Curve {
+    let curve = |(name, subject): Named| Curve {
         name,
         rows: SIZES
             .map(|n| measured(name, subject(n), effort))

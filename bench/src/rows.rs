@@ -26,8 +26,11 @@ pub fn measured(name: &'static str, subject: Subject, effort: Effort) -> Row {
 const WHOLE: usize = 3488;
 const BLOCKS: u16 = 185;
 
+/// A row's name, and what is measured for it.
+type Named = (&'static str, fn() -> Subject);
+
 pub fn all(effort: Effort) -> Vec<Row> {
-    let rows: [(&str, fn() -> Subject); 11] = [
+    let rows: [Named; 11] = [
         ("checksum of 20 bytes", || subjects::checksum(20)),
         ("checksum of 1,500 bytes", || subjects::checksum(1500)),
         ("checksum of 3,488 bytes", || subjects::checksum(3488)),
@@ -48,7 +51,7 @@ pub fn all(effort: Effort) -> Vec<Row> {
         }),
         ("check UDP, 3,480 bytes", || subjects::check(3480)),
     ];
-    let measure = |(name, subject): (_, fn() -> Subject)| measured(name, subject(), effort);
+    let measure = |(name, subject): Named| measured(name, subject(), effort);
     rows.map(measure).into_iter().collect()
 }
 
