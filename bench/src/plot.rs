@@ -3,7 +3,7 @@
 use crate::growth::{Curve, SIZES};
 use crate::rows::Row;
 
-const WIDTH: f64 = 830.0;
+const WIDTH: f64 = 850.0;
 const HEIGHT: f64 = 560.0;
 const PANEL: (f64, f64) = (205.0, 190.0);
 
@@ -107,6 +107,8 @@ fn panel(curve: &Curve, left: f64, top: f64) -> String {
         curve.name,
     );
     svg += &text(PANEL.0 / 2.0, PANEL.1 + 31.0, "middle", "", "bytes");
+    let turned = format!(" transform=\"rotate(-90 -48 {0})\"", PANEL.1 / 2.0);
+    svg += &text(-48.0, PANEL.1 / 2.0, "middle", &turned, "time of a call");
     for (i, line) in LINES.iter().enumerate() {
         let timed = curve.rows.iter().zip(SIZES);
         let points: Vec<_> = timed
@@ -149,7 +151,7 @@ pub fn drawn(curves: &[Curve], machine: &str) -> String {
          <title>Time of a call by the bytes it works on</title>\n\
          <rect width=\"{WIDTH}\" height=\"{HEIGHT}\" fill=\"#ffffff\"/>\n"
     );
-    let place = |i: usize| (52.0 + 272.0 * (i % 3) as f64, 32.0 + 275.0 * (i / 3) as f64);
+    let place = |i: usize| (64.0 + 272.0 * (i % 3) as f64, 32.0 + 275.0 * (i / 3) as f64);
     for (i, curve) in curves.iter().enumerate() {
         let (left, top) = place(i);
         svg += &panel(curve, left, top);
