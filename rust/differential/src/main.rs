@@ -10,6 +10,7 @@ mod damage;
 mod icmp;
 mod model;
 mod pieces;
+mod records;
 mod rng;
 mod run;
 mod sums;
@@ -42,13 +43,14 @@ const KINDS: [fn(&mut Run) -> Compared; 16] = [
     writing::capture_record,
     checking::compare,
     checking::compare,
-    taking_or_refused,
+    assemblies,
 ];
 
-fn taking_or_refused(run: &mut Run) -> Compared {
-    match run.rng.once_in(16) {
-        true => taking::refused(run),
-        false => taking::compare(run),
+fn assemblies(run: &mut Run) -> Compared {
+    match run.rng.below(16) {
+        0 => taking::refused(run),
+        1..=4 => records::compare(run),
+        _ => taking::compare(run),
     }
 }
 

@@ -58,19 +58,19 @@ pub fn check(packet: &[u8]) -> Result<Good, Refusal> {
 }
 
 /// A piece that was accepted.
-struct Piece {
-    start: usize,
-    data: Vec<u8>,
-    more: bool,
+pub struct Piece {
+    pub start: usize,
+    pub data: Vec<u8>,
+    pub more: bool,
 }
 
 impl Piece {
-    fn end(&self) -> usize {
+    pub fn end(&self) -> usize {
         self.start + self.data.len()
     }
 
     /// 4, 5, 6, 4, 7, 8, 9, 10.
-    fn read(key: Key, packet: &[u8]) -> Result<Self, Refusal> {
+    pub fn read(key: Key, packet: &[u8]) -> Result<Self, Refusal> {
         let packet = read(packet)?;
         let field = be16(packet, 6);
         let named = [&key.src.octets()[..], &key.dst.octets()].concat();

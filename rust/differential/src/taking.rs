@@ -23,7 +23,7 @@ fn piece(rng: &mut Rng, template: &Template, payload: &[u8], len: u16) -> Vec<u8
 }
 
 /// What is taken: mostly a piece as it was cut, and else one with other bytes, or damaged.
-fn packet(rng: &mut Rng, template: &Template, payload: &[u8], len: u16, odd: bool) -> Vec<u8> {
+pub fn packet(rng: &mut Rng, template: &Template, payload: &[u8], len: u16, odd: bool) -> Vec<u8> {
     let mut packet = piece(rng, template, payload, len);
     let last = packet.len() - 1;
     match rng.below(16) {
@@ -35,7 +35,7 @@ fn packet(rng: &mut Rng, template: &Template, payload: &[u8], len: u16, odd: boo
     packet
 }
 
-fn key(template: &Template) -> Key {
+pub fn key(template: &Template) -> Key {
     Key {
         src: template.src,
         dst: template.dst,
@@ -43,7 +43,7 @@ fn key(template: &Template) -> Key {
     }
 }
 
-fn name(outcome: Result<Outcome, Refusal>) -> &'static str {
+pub fn name(outcome: Result<Outcome, Refusal>) -> &'static str {
     match outcome {
         Ok(Outcome::Waiting) => "taken: waiting",
         Ok(Outcome::Complete) => "taken: complete",
@@ -73,7 +73,7 @@ pub fn compare(run: &mut Run) -> Compared {
         let outcome = ours.take(&packet);
         run.same("assembly take", outcome, model.take(&packet))?;
         run.saw(name(outcome));
-        same_state(&ours, &model)?;
+        same_state(&ours, model.record(), &model.payload, &model.map)?;
     }
     Ok(())
 }
@@ -87,15 +87,14 @@ fn record(template: &Template) -> Record {
     }
 }
 
-fn same_state(ours: &Assembly, model: &model::Assembly) -> Compared {
-    if ours.record() != model.record() {
-        let (got, expected) = (ours.record(), model.record());
-        return Err(format!("assembly take: {got:?} and not {expected:?}"));
-    }
-    match (ours.payload() == model.payload, ours.map() == model.map) {
-        (true, true) => Ok(()),
-        (false, _) => Err("assembly take: other bytes in the payload".to_string()),
-        (_, false) => Err("assembly take: other bits in the map".to_string()),
+/// Compares the record and every byte of both buffers.
+pub fn same_state(ours: &Assembly, record: Record, payload: &[u8], map: &[u8]) -> Compared {
+    let got = ours.record();
+    match () {
+        _ if got != record => Err(format!("assembly take: {got:?} and not {record:?}")),
+        _ if ours.payload() != payload => Err("assembly take: other payload bytes".to_string()),
+        _ if ours.map() != map => Err("assembly take: other marks".to_string()),
+        _ => Ok(()),
     }
 }
 
