@@ -70,9 +70,10 @@ impl State {
 /// Numbers and bytes as they come, but none that is refused by 11.
 fn draw(run: &mut Run, key: Key, size: usize) -> State {
     let rng = &mut run.rng;
-    let (any_total, any_floor, any_marks) = (rng.below(PAYLOAD_BYTES), rng.below(100), rng.u8());
-    let total = rng.pick(&[size, size, 0, PAYLOAD_BYTES, any_total]);
-    let floor = rng.pick(&[0, 0, size, size + 1, 65_513, any_floor]);
+    let (blocks, any_marks) = (size / 8 + 1, rng.u8());
+    let (some, others) = (8 * rng.below(blocks), 8 * rng.below(blocks) + rng.below(2));
+    let total = rng.pick(&[size, size, some, 0, PAYLOAD_BYTES]);
+    let floor = rng.pick(&[0, 0, others, size, size + 1, 65_513]);
     let marks = rng.pick(&[0x00, 0x00, 0xff, any_marks]);
     let mut map = vec![marks; MAP_BYTES];
     map[..8].copy_from_slice(&rng.u64().to_le_bytes());
