@@ -4,13 +4,13 @@
 pub mod digest;
 pub mod file;
 pub mod pod;
+pub mod rng;
 
 mod icmp4;
 mod ip4;
 mod ipv4;
 mod packet;
 mod payload;
-mod rng;
 mod tcp4;
 mod udp4;
 

@@ -1,62 +1,35 @@
 //! Numbers and bytes that look random and are the same for the same seed.
 
-use std::net::{Ipv4Addr, SocketAddrV4};
+use std::ops::{Deref, DerefMut};
+use vectors::rng::Rng as Numbers;
 
-/// SplitMix64.
-pub struct Rng(u64);
+/// The oracle's numbers, and what a run of random calls draws besides.
+pub struct Rng(Numbers);
+
+impl Deref for Rng {
+    type Target = Numbers;
+
+    fn deref(&self) -> &Numbers {
+        &self.0
+    }
+}
+
+impl DerefMut for Rng {
+    fn deref_mut(&mut self) -> &mut Numbers {
+        &mut self.0
+    }
+}
 
 impl Rng {
     /// The numbers of one case of a run.
     pub fn of_case(seed: u64, case: u64) -> Self {
-        let mut rng = Self(seed);
-        let mixed = rng.u64() ^ case;
-        Self(mixed)
-    }
-
-    pub fn u64(&mut self) -> u64 {
-        self.0 = self.0.wrapping_add(0x9e37_79b9_7f4a_7c15);
-        let mut z = self.0;
-        z = (z ^ (z >> 30)).wrapping_mul(0xbf58_476d_1ce4_e5b9);
-        z = (z ^ (z >> 27)).wrapping_mul(0x94d0_49bb_1331_11eb);
-        z ^ (z >> 31)
-    }
-
-    pub fn u32(&mut self) -> u32 {
-        (self.u64() >> 32) as u32
-    }
-
-    pub fn u16(&mut self) -> u16 {
-        (self.u64() >> 48) as u16
-    }
-
-    pub fn u8(&mut self) -> u8 {
-        (self.u64() >> 56) as u8
-    }
-
-    pub fn flip(&mut self) -> bool {
-        self.u64() >> 63 == 1
-    }
-
-    /// A number below `n`, which is not 0.
-    pub fn below(&mut self, n: usize) -> usize {
-        (self.u64() % n as u64) as usize
+        let mixed = Numbers::new(seed).u64() ^ case;
+        Self(Numbers::new(mixed))
     }
 
     /// True once in `n`.
     pub fn once_in(&mut self, n: usize) -> bool {
         self.below(n) == 0
-    }
-
-    pub fn pick<T: Copy>(&mut self, from: &[T]) -> T {
-        from[self.below(from.len())]
-    }
-
-    pub fn addr(&mut self) -> Ipv4Addr {
-        self.u32().into()
-    }
-
-    pub fn socket(&mut self) -> SocketAddrV4 {
-        SocketAddrV4::new(self.addr(), self.u16())
     }
 
     /// A number that is often close to 0 or to 2^32.
@@ -101,7 +74,7 @@ pub struct Bytes {
     len: usize,
 }
 
-impl std::ops::Deref for Bytes {
+impl Deref for Bytes {
     type Target = [u8];
 
     fn deref(&self) -> &[u8] {
@@ -109,7 +82,7 @@ impl std::ops::Deref for Bytes {
     }
 }
 
-impl std::ops::DerefMut for Bytes {
+impl DerefMut for Bytes {
     fn deref_mut(&mut self) -> &mut [u8] {
         &mut self.held[self.start..][..self.len]
     }
