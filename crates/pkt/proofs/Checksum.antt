@@ -3,15 +3,15 @@ use mathlib.Core.Path.{_≡_, refl, sym, ap, _∙_}
 use Prim.Native.Nat.{ℕ, zero, suc, _+_, _-_, _*_, _/_, _%_, _≤_, _<_}
 use native.Mathlib.Omega.{arith}
 use mathlib.Core.List.{List, [], _∷_, _++_}
-use lib.ListN.{length, getD, drop, drop-of-length-le}
-use lib.Seq.{drop-cons}
+use lib.ListN.{length, getD, drop, length-drop, drop-of-length-le}
+use lib.Seq.{drop-cons, drop-drop}
 use native.Mathlib.Numerals.{add-one, add-two}
 use Rattle.pkt.proofs.Bytes.{bytes-append}
 use Rattle.pkt.proofs.Fields.{be-bytes}
 use Rattle.pkt.specs.Fields.{be, Bytes}
 use Rattle.pkt.specs.Rfc768.{nonzero}
 use Rattle.pkt.specs.Rfc1071.{words, plus, sum, checksum, Verifies}
-use Rattle.pkt.specs.Sums.{total, canon, folded}
+use Rattle.pkt.specs.Sums.{total, canon, folded, little}
 
 pub canon-small : (n : ℕ) → n ≤ 65535 → canon n ≡ n
 unfolding canon
@@ -164,21 +164,37 @@ folds-canon n h =
     ∙ canon-fold (folded n)
     ∙ canon-fold n
 
--- a turn over four bytes
+-- 256 times a number, and 256 times that number folded, fold alike
+pub canon-fold-high : (n : ℕ) → canon (256 * folded n) ≡ canon (256 * n)
+canon-fold-high n =
+    let a : 256 * folded n ≡ 256 * (n % 65536) + 256 * (n / 65536) = omega arith in
+    let b : 256 * (n % 65536) + 256 * (n / 65536) * 65536 ≡ 256 * n = omega arith in
+    ap canon a ∙ sym (canon-wide (256 * (n % 65536)) (256 * (n / 65536))) ∙ ap canon b
+
+-- four bytes, the first the lowest, 256 times: two words
+canon-four : (a b c d s r : ℕ)
+    → canon (256 * (s + (a + b * 256 + c * 65536 + d * 16777216)) + r) ≡ canon (256 * s + (a * 256 + b + (c * 256 + d + r)))
+canon-four a b c d s r =
+    let n : ℕ = 256 * s + a * 256 + r in
+    let e : 256 * (s + (a + b * 256 + c * 65536 + d * 16777216)) + r ≡ n + (b + c * 256 + d * 65536) * 65536 = omega arith in
+    let f : n + (b + c * 256 + d * 65536) ≡ n + b + c * 256 + d * 65536 = omega arith in
+    let g : n + b + c * 256 + d ≡ 256 * s + (a * 256 + b + (c * 256 + d + r)) = omega arith in
+    ap canon e ∙ canon-wide n (b + c * 256 + d * 65536) ∙ ap canon f ∙ canon-wide (n + b + c * 256) d ∙ ap canon g
+
+-- a turn over the first four bytes
+quad-first : (l : List ℕ) (s : ℕ) → 4 ≤ length l → canon (256 * (s + little l) + total (drop 4 l)) ≡ canon (256 * s + total l)
+quad-first l s h =
+    let t₀ : total l ≡ getD l 0 0 * 256 + getD l 1 0 + total (drop 2 l) = total-two l 0 (omega arith) in
+    let t₂ : total (drop 2 l) ≡ getD l 2 0 * 256 + getD l 3 0 + total (drop 4 l) = total-two l 2 (omega arith) in
+    canon-four (getD l 0 0) (getD l 1 0) (getD l 2 0) (getD l 3 0) s (total (drop 4 l))
+    ∙ sym (ap (λ (k : ℕ). canon (256 * s + k)) (t₀ ∙ ap (λ (k : ℕ). getD l 0 0 * 256 + getD l 1 0 + k) t₂))
+
+-- and over four from an index on
 pub quad-step : (l : List ℕ) (i s : ℕ) → i + 3 < length l
-    → canon (s + ((getD l i 0 * 256 + getD l (i + 1) 0) * 65536 + (getD l (i + 2) 0 * 256 + getD l (i + 3) 0)) + total (drop (i + 4) l))
-    ≡ canon (s + total (drop i l))
+    → canon (256 * (s + little (drop i l)) + total (drop (i + 4) l)) ≡ canon (256 * s + total (drop i l))
 quad-step l i s h =
-    let e₃ : i + 2 + 1 ≡ i + 3 = omega arith in
-    let e₄ : i + 2 + 2 ≡ i + 4 = omega arith in
-    let t₀ = total-two l i (omega arith) in
-    let t₂ = rw (e₃, e₄) at (total-two l (i + 2) (omega arith)) in
-    let w : ℕ = getD l i 0 * 256 + getD l (i + 1) 0 in
-    let v : ℕ = getD l (i + 2) 0 * 256 + getD l (i + 3) 0 in
-    let r : ℕ = total (drop (i + 4) l) in
-    let a : s + (w * 65536 + v) + r ≡ s + v + r + w * 65536 = omega arith in
-    let b : s + v + r + w ≡ s + total (drop i l) = omega arith in
-    ap canon a ∙ canon-wide (s + v + r) w ∙ ap canon b
+    ap (λ (r : List ℕ). canon (256 * (s + little (drop i l)) + total r)) (sym (drop-drop 4 i l))
+    ∙ quad-first (drop i l) s (omega (arith, length-drop i l))
 
 -- ---- a checksum's field
 

@@ -1,6 +1,7 @@
 -- What the inner sums say. No public contract cites these.
 use Prim.Native.Nat.{ℕ, zero, suc, _+_, _*_, _/_, _%_}
 use mathlib.Core.List.{List, [], _∷_}
+use lib.ListN.{getD}
 
 -- the plain sum of the 16-bit words
 unfoldable pub total : List ℕ → ℕ
@@ -16,3 +17,7 @@ canon (suc n) = suc (n % 65535)
 -- one step of folding: what is above 16 bits added to the 16
 abbrev pub folded : ℕ → ℕ
 folded n = n % 65536 + n / 65536
+
+-- the first four bytes as one number, the first the lowest
+abbrev pub little : List ℕ → ℕ
+little l = getD l 0 0 + getD l 1 0 * 256 + getD l 2 0 * 65536 + getD l 3 0 * 16777216

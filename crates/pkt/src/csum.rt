@@ -2,7 +2,7 @@
 ghost use mathlib.Core.Path.{_≡_};
 ghost use Prim.Native.Nat.{_+_, _-_, _*_, _≤_, _<_};
 ghost use lib.ListN.{length};
-ghost use Rattle.pkt.specs.Sums.{total, canon, folded};
+ghost use Rattle.pkt.specs.Sums.{total, canon, folded, little};
 
 // Two bytes as a 16-bit word.
 fn word(hi: u8, lo: u8) -> u64
@@ -11,11 +11,12 @@ fn word(hi: u8, lo: u8) -> u64
     (hi as u64) * 256 + lo as u64
 }
 
-// Four bytes as two words, the first of them 65,536 times: that folds to their sum.
-fn quad(a: u8, b: u8, c: u8, d: u8) -> u64
-    ensures { λ r. ⌜ (r ≡ (a * 256 + b) * 65536 + (c * 256 + d)) × (r ≤ 4294967295) ⌝ }
+// The first four bytes as one number, the first the lowest. 256 times that folds to what the sum of their two words folds to.
+fn quad(p: &[u8]) -> u64
+    requires { ⌜ 4 ≤ length (now p) ⌝ }
+    ensures { λ r. ⌜ (r ≡ little (now (p .entry))) × (r ≤ 4294967295) ⌝ }
 {
-    (((a as u64) * 256 + b as u64) * 256 + c as u64) * 256 + d as u64
+    p[0] as u64 + (p[1] as u64) * 256 + (p[2] as u64) * 65536 + (p[3] as u64) * 16777216
 }
 
 // The plain sum of the words of buf. An odd last byte is a word's high byte.
@@ -37,7 +38,8 @@ fn plain(buf: &[u8]) -> u64
 }
 
 // A number that folds to what the sum of the words of buf folds to. It is below a third of 2^48, so that two of them and a number below
-// 2^20 are together below 2^48.
+// 2^20 are together below 2^48. Words with their bytes exchanged have the sum with its bytes exchanged (RFC 1071, section 2 (B)):
+// the loop adds four bytes as a little-endian machine loads them, and 256 times that folds to the sum.
 pub(crate) fn ip_csum_partial(buf: &[u8]) -> u64
     requires { ⌜ length (now buf) ≤ 65535 ⌝ }
     ensures { λ r. ⌜ (canon r ≡ canon (total (now (buf .entry)))) × (r < 93824992236885) ⌝ }
@@ -46,10 +48,10 @@ pub(crate) fn ip_csum_partial(buf: &[u8]) -> u64
     let mut sum: u64 = 0;
     let mut i = 0;
     while i + 3 < n {
-        sum += quad(buf[i], buf[i + 1], buf[i + 2], buf[i + 3]);
+        sum += quad(&buf[i..]);
         i += 4;
     }
-    sum + plain(&buf[i..])
+    256 * fold(sum) + plain(&buf[i..])
 }
 
 // What is above 16 bits added to the 16.
