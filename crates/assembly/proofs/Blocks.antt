@@ -1,10 +1,10 @@
 -- The test of the data against the marked blocks: byte by byte, and block by block.
 use mathlib.Core.Path.{_≡_, refl, sym, ap, _∙_}
 use mathlib.Core.Logic.{_≢_, _⊎_, inl, inr}
-use mathlib.Core.Bool.{Bool, true, false, not, _&&_, _||_, true≢false, or-assoc}
+use mathlib.Core.Bool.{Bool, true, false, not, _&&_, _||_, cond, true≢false, or-assoc}
 use mathlib.Core.List.{List, [], _∷_}
 use Prim.Native.Nat.{ℕ, zero, suc, _+_, _*_, _-_, _/_, _%_, _≤_, _<_, min}
-use native.Mathlib.Nat.{add-zero}
+use native.Mathlib.Nat.{add-zero, zero-div}
 use native.Mathlib.Numerals.{add-one}
 use native.Mathlib.Decide.{ℕ-discrete}
 use native.Mathlib.Omega.{arith}
@@ -13,7 +13,7 @@ use lib.Seq.{drop-cons, drop-drop}
 use lib.Dec.{eqb}
 use borrow.Author.Tests.{eqb-true, eqb-false, eq-eqb, ne-eqb, not-true, not-false}
 use Rattle.assembly.specs.Map.{bit}
-use Rattle.assembly.specs.Assembly.{byteClash, unlike}
+use Rattle.assembly.specs.Assembly.{byteClash, unlike, onward}
 use Rattle.pkt.proofs.Choice.{or-cases, or-no, and-both, and-no}
 
 -- ---- what the test tells
@@ -91,35 +91,68 @@ span-clear d m k (x ∷ xs) (suc n) h =
     let b : eqb (bit m (k / 8)) 1 ≡ false = h k (omega arith) (omega arith) in
     rw (b, e) (span-clear d m (suc k) xs n (λ j lo hi. h j (omega arith) (omega arith)))
 
+-- ---- how far the test goes on from block k
+bit-none : (m : List ℕ) (k : ℕ) → getD m (k / 8) 0 ≡ 0 → eqb (bit m k) 1 ≡ false
+unfolding bit
+bit-none m k z = rw (z, zero-div) refl
+
+-- what holds of a block, and of the blocks left in a byte of the map that is 0, holds of it
+onward-by : (m : List ℕ) (k : ℕ) (P : ℕ → Type 0) → P 8 → (getD m (k / 8) 0 ≡ 0 → P (8 * (8 - k % 8))) → P (onward m k)
+unfolding onward
+onward-by m k P one left = go (eqb (getD m (k / 8) 0) 0) refl
+  where
+    go : (b : Bool) → eqb (getD m (k / 8) 0) 0 ≡ b → P (cond b (8 * (8 - k % 8)) 8)
+    go true e = left (eqb-true _ _ e)
+    go false e = one
+
+-- one to eight blocks
+pub onward-blocks : (m : List ℕ) (k n : ℕ) → n ≡ onward m k → (8 ≤ n) × (n ≤ 64) × (n % 8 ≡ 0)
+onward-blocks m k n e =
+    rw e
+    (onward-by m k (λ n. (8 ≤ n) × (n ≤ 64) × (n % 8 ≡ 0)) (omega arith, omega arith, omega arith)
+    (λ z. (omega arith, omega arith, omega arith)))
+
 -- the block at place 8 * off + i, for data that starts at block off
 module _ (d m : List ℕ) (off : ℕ) (xs : List ℕ) (i : ℕ) (whole : i % 8 ≡ 0) where
   bits : (b : Bool) → eqb (bit m (off + i / 8)) 1 ≡ b → (j : ℕ) → 8 * off + i ≤ j → j < 8 * off + i + 8 → eqb (bit m (j / 8)) 1 ≡ b
   bits b e j lo hi = let q : j / 8 ≡ off + i / 8 = omega arith in rw q e
 
-  rest : byteClash d m (8 * off + i + 8) (drop 8 (drop i xs)) ≡ byteClash d m (8 * off + (i + 8)) (drop (i + 8) xs)
-  rest = let e : 8 * off + i + 8 ≡ 8 * off + (i + 8) = omega arith in rw (drop-drop, e) refl
+  rest : (n : ℕ) → byteClash d m (8 * off + i + n) (drop n (drop i xs)) ≡ byteClash d m (8 * off + (i + n)) (drop (i + n) xs)
+  rest n = let e : 8 * off + i + n ≡ 8 * off + (i + n) = omega arith in rw (drop-drop, e) refl
+
+  -- the test from n bytes on is the test from here
+  abbrev pub Leads : ℕ → Type 0
+  Leads n = byteClash d m (8 * off + (i + n)) (drop (i + n) xs) ≡ byteClash d m (8 * off + i) (drop i xs)
 
   -- a marked block that differs ends the search; any other block leads on
   pub block-here : eqb (bit m (off + i / 8)) 1 ≡ true → unlike d (8 * off + i) (take 8 (drop i xs)) ≡ true
       → byteClash d m (8 * off + i) (drop i xs) ≡ true
   block-here b u = span-set d m (8 * off + i) (drop i xs) 8 (bits true b) ∙ rw u refl
 
-  block-same : eqb (bit m (off + i / 8)) 1 ≡ true → unlike d (8 * off + i) (take 8 (drop i xs)) ≡ false
-      → byteClash d m (8 * off + (i + 8)) (drop (i + 8) xs) ≡ byteClash d m (8 * off + i) (drop i xs)
-  block-same b u = sym (span-set d m (8 * off + i) (drop i xs) 8 (bits true b) ∙ rw u rest)
+  block-same : eqb (bit m (off + i / 8)) 1 ≡ true → unlike d (8 * off + i) (take 8 (drop i xs)) ≡ false → Leads 8
+  block-same b u = sym (span-set d m (8 * off + i) (drop i xs) 8 (bits true b) ∙ rw u (rest 8))
 
-  block-clear : eqb (bit m (off + i / 8)) 1 ≡ false
-      → byteClash d m (8 * off + (i + 8)) (drop (i + 8) xs) ≡ byteClash d m (8 * off + i) (drop i xs)
-  block-clear b = sym (span-clear d m (8 * off + i) (drop i xs) 8 (bits false b) ∙ rest)
+  block-clear : eqb (bit m (off + i / 8)) 1 ≡ false → Leads 8
+  block-clear b = sym (span-clear d m (8 * off + i) (drop i xs) 8 (bits false b) ∙ rest 8)
 
-  pub block-on : (eqb (bit m (off + i / 8)) 1 ≡ false) ⊎ (unlike d (8 * off + i) (take 8 (drop i xs)) ≡ false)
-      → byteClash d m (8 * off + (i + 8)) (drop (i + 8) xs) ≡ byteClash d m (8 * off + i) (drop i xs)
+  block-on : (eqb (bit m (off + i / 8)) 1 ≡ false) ⊎ (unlike d (8 * off + i) (take 8 (drop i xs)) ≡ false) → Leads 8
   block-on (inl b) = block-clear b
   block-on (inr u) = go (eqb (bit m (off + i / 8)) 1) refl
     where
-      go : (b : Bool) → eqb (bit m (off + i / 8)) 1 ≡ b → byteClash d m (8 * off + (i + 8)) (drop (i + 8) xs) ≡ byteClash d m (8 * off + i) (drop i xs)
+      go : (b : Bool) → eqb (bit m (off + i / 8)) 1 ≡ b → Leads 8
       go true b = block-same b u
       go false b = block-clear b
+
+  -- in a byte of the map that is 0 no block that is left is marked
+  byte-clear : getD m ((off + i / 8) / 8) 0 ≡ 0 → Leads (8 * (8 - (off + i / 8) % 8))
+  byte-clear z = sym (span-clear d m (8 * off + i) (drop i xs) (8 * (8 - (off + i / 8) % 8)) none ∙ rest (8 * (8 - (off + i / 8) % 8)))
+    where
+      none : (j : ℕ) → 8 * off + i ≤ j → j < 8 * off + i + 8 * (8 - (off + i / 8) % 8) → eqb (bit m (j / 8)) 1 ≡ false
+      none j lo hi = let q : j / 8 / 8 ≡ (off + i / 8) / 8 = omega arith in bit-none m (j / 8) (rw q z)
+
+  pub leads-on : (n : ℕ) → n ≡ onward m (off + i / 8)
+      → (eqb (bit m (off + i / 8)) 1 ≡ false) ⊎ (unlike d (8 * off + i) (take 8 (drop i xs)) ≡ false) → Leads n
+  leads-on n e h = rw e (onward-by m (off + i / 8) Leads (block-on h) byte-clear)
 
 pub byteClash-start : (d m : List ℕ) (k : ℕ) (xs : List ℕ) → byteClash d m (k + 0) (drop 0 xs) ≡ byteClash d m k xs
 byteClash-start d m k xs = rw add-zero refl

@@ -3,7 +3,7 @@ use crate::map;
 ghost use mathlib.Core.Path.{_≡_};
 ghost use Prim.Native.Nat.{_+_, _*_, _≤_, _<_, min};
 ghost use lib.ListN.{length, take, drop};
-ghost use Rattle.assembly.specs.Assembly.{byteClash, unlike};
+ghost use Rattle.assembly.specs.Assembly.{byteClash, onward, unlike};
 
 fn least(a: usize, b: usize) -> usize
     ensures { λ r. ⌜ r ≡ min a b ⌝ }
@@ -28,7 +28,20 @@ fn block_differs(payload: &[u8], at: usize, body: &[u8], from: usize) -> bool
     false
 }
 
-// Whether body, at block off, differs from what is held in a marked block. A block that is not marked is passed over whole.
+// How many bytes of the body the search goes on from block k: to the next byte of the map where this one is 0, else a block.
+fn stride(map: &[u8], k: usize) -> usize
+    requires { do ⌜ k < 8 * (← ⟦map.len()⟧) ⌝ }
+    ensures { λ r. ⌜ r ≡ onward (now (map .entry)) k ⌝ }
+{
+    let b = k / 8;
+    if map[b] == 0 {
+        return 8 * (8 - k % 8);
+    }
+    8
+}
+
+// Whether body, at block off, differs from what is held in a marked block. A block that is not marked is passed over whole,
+// and so are the blocks of a byte of the map in which none is marked.
 pub(crate) fn differs(payload: &[u8], map: &[u8], off: usize, body: &[u8]) -> bool
     requires { do ⌜ 8 * off + (← ⟦body.len()⟧) ≤ (← ⟦payload.len()⟧) ⌝ }
     requires { do ⌜ (← ⟦payload.len()⟧) ≤ 64 * (← ⟦map.len()⟧) ⌝ }
@@ -36,12 +49,13 @@ pub(crate) fn differs(payload: &[u8], map: &[u8], off: usize, body: &[u8]) -> bo
 {
     let mut i: usize = 0;
     while i < body.len() {
-        if map::is_marked(map, off + i / 8) {
+        let k = off + i / 8;
+        if map::is_marked(map, k) {
             if block_differs(payload, 8 * off, body, i) {
                 return true;
             }
         }
-        i += 8;
+        i += stride(map, k);
     }
     false
 }

@@ -4,7 +4,8 @@ use borrow.Author.Needs.{needs}
 use lib.ListN.{length, drop}
 use mathlib.Core.Logic.{⊎-elim, inl, inr}
 use mathlib.Core.Path.{_≡_, sym, _∙_}
-use Rattle.assembly.proofs.Blocks.{byteClash-start, byteClash-done, block-here, block-on}
+use native.Mathlib.Omega.{arith}
+use Rattle.assembly.proofs.Blocks.{byteClash-start, byteClash-done, block-here, leads-on, onward-blocks}
 use Rattle.assembly.specs.Assembly.{byteClash}
 use Rattle.assembly.proofs.compare.differs.Statement.{statement}
 use Rattle.assembly.proofs.compare.differs.Tie as tie
@@ -27,11 +28,12 @@ returns c =
 
 loop-again : tie.Need-loop-again Inv-loop μ-loop
 loop-again c =
-    let test = c .before in
-    let head = test .before .before in (
-      search needs,
-      block-on _ _ _ _ _ (head .loop .inv .0)
-          (⊎-elim (λ w. inr (sym (w .1 .ensures) ∙ w .2 .left)) (λ w. inl (sym (test .is-marked .ensures) ∙ w .left)) (c .if1 .came))
+    let test = c .before .before in
+    let head = test .before .before in
+    let n = onward-blocks _ _ _ (c .stride .ensures) in (
+      omega arith,
+      leads-on _ _ _ _ _ (head .loop .inv .0) _ (c .stride .ensures)
+          (⊎-elim (λ w. inr (sym (w .1 .ensures) ∙ w .2 .left)) (λ w. inl (sym (test .is-marked .ensures) ∙ w .left)) (c .before .if1 .came))
           ∙ head .loop .inv .1,
     )
 
@@ -50,7 +52,8 @@ differs-spec =
     (λ c. search needs)
     (λ c κs. search needs)
     returns
-    (λ c. search needs)
-    (λ c. search needs)
+    (λ c κs. search needs)
+    (λ c. let n = onward-blocks _ _ _ (c .stride .ensures) in omega arith)
+    (λ c. let n = onward-blocks _ _ _ (c .stride .ensures) in omega arith)
     loop-again
     returns-2)
