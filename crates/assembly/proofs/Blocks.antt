@@ -13,7 +13,8 @@ use lib.Seq.{drop-cons, drop-drop}
 use lib.Dec.{eqb}
 use borrow.Author.Tests.{eqb-true, eqb-false, eq-eqb, ne-eqb, not-true, not-false}
 use Rattle.assembly.specs.Map.{bit}
-use Rattle.assembly.specs.Assembly.{byteClash, unlike, onward}
+use Rattle.assembly.specs.Assembly.{byteClash}
+use Rattle.assembly.specs.Search.{unlike, onward}
 use Rattle.pkt.proofs.Choice.{or-cases, or-no, and-both, and-no}
 
 -- ---- what the test tells

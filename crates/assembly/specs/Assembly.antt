@@ -3,7 +3,7 @@
 use mathlib.Core.Bool.{Bool, true, false, not, _&&_, _||_, cond}
 use mathlib.Core.Option.{Option, none, some}
 use mathlib.Core.List.{List, [], _∷_}
-use Prim.Native.Nat.{ℕ, suc, _+_, _*_, _-_, _/_, _%_, max}
+use Prim.Native.Nat.{ℕ, suc, _+_, _*_, _/_, max}
 use lib.ListN.{length, getD, take}
 use lib.Seq.{sets}
 use lib.Dec.{leb, ltb, eqb}
@@ -112,12 +112,3 @@ pub data Outcome : Type 0 where
 
 unfoldable pub outcome : State → Outcome
 outcome s = cond (s .spoilt) isSpoilt (cond (heldTo (s .map) (s .total)) isComplete isWaiting)
-
--- whether a byte of the data differs from the byte at its place: what is asked of a block whose bit is set
-unfoldable pub unlike : List ℕ → ℕ → List ℕ → Bool
-unlike d k [] = false
-unlike d k (x ∷ xs) = not (eqb (getD d k 0) x) || unlike d (suc k) xs
-
--- how many bytes of the data the test goes on from block k: to the next byte of the map where k's is 0, else a block
-unfoldable pub onward : List ℕ → ℕ → ℕ
-onward m k = cond (eqb (getD m (k / 8) 0) 0) (8 * (8 - k % 8)) 8

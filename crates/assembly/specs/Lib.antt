@@ -1,6 +1,7 @@
 pub mod Piece
 pub mod Map
 pub mod Assembly
+pub mod Search
 pub mod View
 pub mod Answers
 pub mod Carried

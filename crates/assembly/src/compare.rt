@@ -3,7 +3,8 @@ use crate::map;
 ghost use mathlib.Core.Path.{_≡_};
 ghost use Prim.Native.Nat.{_+_, _*_, _≤_, _<_, min};
 ghost use lib.ListN.{length, take, drop};
-ghost use Rattle.assembly.specs.Assembly.{byteClash, onward, unlike};
+ghost use Rattle.assembly.specs.Assembly.{byteClash};
+ghost use Rattle.assembly.specs.Search.{onward, unlike};
 
 fn least(a: usize, b: usize) -> usize
     ensures { λ r. ⌜ r ≡ min a b ⌝ }

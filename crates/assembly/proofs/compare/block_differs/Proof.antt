@@ -5,7 +5,7 @@ use lib.ListN.{take, drop}
 use mathlib.Core.Path.{_≡_, sym, _∙_}
 use native.Mathlib.Omega.{arith}
 use Rattle.assembly.proofs.Blocks.{unlike-start, unlike-here, unlike-on, unlike-done}
-use Rattle.assembly.specs.Assembly.{unlike}
+use Rattle.assembly.specs.Search.{unlike}
 use Rattle.assembly.proofs.compare.block_differs.Statement.{statement}
 use Rattle.assembly.proofs.compare.block_differs.Tie as tie
 

@@ -3,7 +3,7 @@ use borrow.Author.Needs.{needs}
 use borrow.Author.Tests.{eq-eqb, ne-eqb}
 use mathlib.Core.Path.{sym}
 use Rattle.pkt.proofs.Choice.{pick-yes, pick-no}
-use Rattle.assembly.specs.Assembly.{onward}
+use Rattle.assembly.specs.Search.{onward}
 use Rattle.assembly.proofs.compare.stride.Statement.{statement}
 use Rattle.assembly.proofs.compare.stride.Tie as tie
 
