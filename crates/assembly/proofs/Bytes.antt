@@ -8,8 +8,8 @@ use lib.ListN.{length, getD, set, take, drop, replicate, length-set, length-repl
 use lib.Seq.{sets, length-sets, sets-eq, getD-set-same, getD-set-other, ext-getD, take-length, drop-drop}
 use borrow.Rule.Slice.PartMut.{midOf, putMid}
 use Rattle.pkt.proofs.Parts.{mid-tail, post-tail}
-use Rattle.assembly.specs.Map.{zeros}
 use Rattle.assembly.proofs.Marks.{getD-zeros}
+use Rattle.pkt.specs.Written.{zeros}
 
 -- ---- bytes stored one after the other
 pub getD-sets-out : (l : List ℕ) (i : ℕ) (vs : List ℕ) (j : ℕ) → (i ≤ j → i + length vs ≤ j) → getD (sets l i vs) j 0 ≡ getD l j 0

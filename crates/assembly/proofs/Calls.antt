@@ -8,7 +8,7 @@ use lib.ListN.{length, take}
 use lib.Dec.{eqb}
 use borrow.Author.Tests.{eqb-true, eq-eqb}
 use Rattle.pkt.specs.Answers.{Answer, refused, gives, mapped}
-use Rattle.inspect.specs.Header.{totalOf}
+use Rattle.inspect.specs.Header.{lengthField}
 use Rattle.assembly.specs.declared.Key.{Key}
 use Rattle.assembly.specs.declared.Rec.{Rec}
 use Rattle.assembly.specs.declared.Opened.{Opened}
@@ -58,7 +58,7 @@ module _ (C M : ℕ) where
   usable-not s e = ap (λ (b : Bool). b && valid s) e
 
   -- Bytes after the total length are ignored.
-  pub take-front : (s : State) (l r : List ℕ) → 20 ≤ totalOf l → totalOf l ≤ length l → takeAnswer C M s (take (totalOf l) l ++ r) ≡ takeAnswer C M s l
+  pub take-front : (s : State) (l r : List ℕ) → 20 ≤ lengthField l → lengthField l ≤ length l → takeAnswer C M s (take (lengthField l) l ++ r) ≡ takeAnswer C M s l
   unfolding takeAnswer
   take-front s l r long there = ap (λ (a : Answer Piece). cond (usable C M s) (mapped (step s) a) (refused 11)) (carried-front C (s .key) l r long there)
 

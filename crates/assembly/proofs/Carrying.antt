@@ -8,7 +8,7 @@ use lib.ListN.{length, take, length-take, length-drop}
 use lib.Dec.{ltb, eqb}
 use borrow.Author.Tests.{ltb-false, le-ltb, eqb-true, eq-eqb, not-false}
 use Rattle.pkt.specs.Answers.{Answer, refused, gives, andThen, mapped}
-use Rattle.inspect.specs.Header.{totalOf, readAnswer, dataOf}
+use Rattle.inspect.specs.Header.{lengthField, readAnswer, dataOf}
 use Rattle.inspect.specs.declared.header.IpRead.{IpRead}
 use Rattle.pkt.proofs.Deciding.{past}
 use Rattle.inspect.proofs.Numbers.{part-front}
@@ -105,12 +105,12 @@ accepted C k l h e key ok =
     nine false m = refl
 
 -- Bytes after the total length are ignored: the piece is that of the first bytes, as many as the total length says, whatever is behind them.
-pub carried-front : (C : ℕ) (k : Key) (l r : List ℕ) → 20 ≤ totalOf l → totalOf l ≤ length l → pieceAnswer C k (take (totalOf l) l ++ r) ≡ pieceAnswer C k l
+pub carried-front : (C : ℕ) (k : Key) (l r : List ℕ) → 20 ≤ lengthField l → lengthField l ≤ length l → pieceAnswer C k (take (lengthField l) l ++ r) ≡ pieceAnswer C k l
 unfolding pieceAnswer headAnswer judgeAnswer fitAnswer
 carried-front C k l r long there = ap (λ (a : Answer IpRead). mapped (pieceOf m) (judged C k m a)) (read-front l r long there) ∙ go (readAnswer l) refl
   where
     m : List ℕ
-    m = take (totalOf l) l ++ r
+    m = take (lengthField l) l ++ r
 
     alike : (h : IpRead) → dataOf h m ≡ dataOf h l → mapped (pieceOf m) (judged C k m (gives h)) ≡ mapped (pieceOf l) (judged C k l (gives h))
     alike h same =
@@ -130,4 +130,4 @@ carried-front C k l r long there = ap (λ (a : Answer IpRead). mapped (pieceOf m
     go (refused n) e = refl
     go (gives h) e =
         let f = read-framed l h e in
-        alike h (part-front (h .start) (h .end - h .start) (totalOf l) l r (omega (arith, read-total l h e)) there)
+        alike h (part-front (h .start) (h .end - h .start) (lengthField l) l r (omega (arith, read-total l h e)) there)

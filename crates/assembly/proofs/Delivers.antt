@@ -11,7 +11,7 @@ use Rattle.assembly.specs.declared.Key.{Key}
 use Rattle.assembly.specs.declared.Rec.{Rec}
 use Rattle.assembly.specs.declared.Opened.the-variants.{Open}
 use Rattle.assembly.specs.declared.Taken.{Taken}
-use Rattle.assembly.specs.Piece.{Piece, Acceptable, _∈_, Contradictory, Same}
+use Rattle.assembly.specs.Piece.{Piece, Acceptable, Contradictory, Same}
 use Rattle.assembly.specs.Assembly.{State, isWaiting, isComplete, isSpoilt, opened, step, run, heldTo, complete, outcome}
 use Rattle.assembly.specs.View.{view, recordOf}
 use Rattle.assembly.specs.Answers.{takenSays, replyOf, stateAfter, recAfter, payloadAfter, mapAfter}
@@ -36,7 +36,7 @@ piecesOf C k [] = []
 piecesOf C k (l ∷ ls) = added (pieceAnswer C k l) (piecesOf C k ls)
 
 module _ (C : ℕ) (k : Key) where
-  pub piece-from : (ls : List (List ℕ)) (p : Piece) → p ∈ piecesOf C k ls → (l : List ℕ) × Accepted C k ls l p
+  pub piece-from : (ls : List (List ℕ)) (p : Piece) → List·Memᴰ p (piecesOf C k ls) → (l : List ℕ) × Accepted C k ls l p
   unfolding piecesOf added
   piece-from [] p m = absurd (List·Memᴰ·not-nil m)
   piece-from (l ∷ ls) p m = go (piece-from ls p) (pieceAnswer C k l) refl m
@@ -44,21 +44,21 @@ module _ (C : ℕ) (k : Key) where
       later : (x : List ℕ) × Accepted C k ls x p → (x : List ℕ) × Accepted C k (l ∷ ls) x p
       later t = (t .0, record { handed = List·Memᴰ·tail (t .1 .handed); carries = t .1 .carries })
 
-      go : (p ∈ piecesOf C k ls → (x : List ℕ) × Accepted C k ls x p) → (a : Answer Piece) → pieceAnswer C k l ≡ a → p ∈ added a (piecesOf C k ls)
+      go : (List·Memᴰ p (piecesOf C k ls) → (x : List ℕ) × Accepted C k ls x p) → (a : Answer Piece) → pieceAnswer C k l ≡ a → List·Memᴰ p (added a (piecesOf C k ls))
           → (x : List ℕ) × Accepted C k (l ∷ ls) x p
       go below (refused n) e h = later (below h)
       go below (gives q) e h = pick (List·Memᴰ·cases-cons h)
         where
-          pick : (p ≡ q) ⊎ (p ∈ piecesOf C k ls) → (x : List ℕ) × Accepted C k (l ∷ ls) x p
+          pick : (p ≡ q) ⊎ (List·Memᴰ p (piecesOf C k ls)) → (x : List ℕ) × Accepted C k (l ∷ ls) x p
           pick (inl z) = (l, record { handed = List·Memᴰ·head refl; carries = e ∙ ap gives (sym z) })
           pick (inr h) = later (below h)
 
-  pub piece-in : (ls : List (List ℕ)) (l : List ℕ) (p : Piece) → Accepted C k ls l p → p ∈ piecesOf C k ls
+  pub piece-in : (ls : List (List ℕ)) (l : List ℕ) (p : Piece) → Accepted C k ls l p → List·Memᴰ p (piecesOf C k ls)
   unfolding piecesOf added
   piece-in [] l p a = absurd (List·Memᴰ·not-nil (a .handed))
   piece-in (x ∷ ls) l p a = go (λ m. piece-in ls l p (record { handed = m; carries = a .carries })) (List·Memᴰ·cases-cons (a .handed)) (pieceAnswer C k x) refl
     where
-      go : (List·Memᴰ l ls → p ∈ piecesOf C k ls) → (l ≡ x) ⊎ List·Memᴰ l ls → (b : Answer Piece) → pieceAnswer C k x ≡ b → p ∈ added b (piecesOf C k ls)
+      go : (List·Memᴰ l ls → List·Memᴰ p (piecesOf C k ls)) → (l ≡ x) ⊎ List·Memᴰ l ls → (b : Answer Piece) → pieceAnswer C k x ≡ b → List·Memᴰ p (added b (piecesOf C k ls))
       go below (inl z) (gives q) e =
           let w : gives q ≡ gives p = sym e ∙ ap (pieceAnswer C k) (sym z) ∙ a .carries in
           let v : p ≡ q = cc in

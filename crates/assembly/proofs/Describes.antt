@@ -4,7 +4,7 @@ use mathlib.Core.Path.{_≡_, refl, sym, ap, _∙_}
 use mathlib.Core.Logic.{_↔_, _⊎_, inl, inr, ⊎-elim}
 use mathlib.Core.Bool.{Bool, true, false, not, cond, true≢false, Bool-discrete}
 use mathlib.Core.Option.{Option, none, some}
-use mathlib.Core.List.{List, [], _∷_, reverseAux, List·Memᴰ·head, List·Memᴰ·tail, List·Memᴰ·not-nil, List·Memᴰ·cases-cons}
+use mathlib.Core.List.{List, [], _∷_, reverseAux, List·Memᴰ·head, List·Memᴰ·tail, List·Memᴰ·not-nil, List·Memᴰ·cases-cons, List·Memᴰ}
 use Prim.Native.Nat.{ℕ, suc, _+_, _*_, _/_, _≤_, _<_, max}
 use native.Mathlib.Decide.{ℕ-discrete, decLe, decLt}
 use native.Mathlib.Omega.{arith}
@@ -14,7 +14,7 @@ use lib.Dec.{ltb, eqb}
 use borrow.Author.Tests.{ltb-true, ltb-false, leb-true, leb-false, eqb-true, eqb-false, not-true, not-false}
 use Rattle.assembly.specs.declared.Key.{Key}
 use Rattle.assembly.specs.Map.{bit, mark}
-use Rattle.assembly.specs.Piece.{Piece, start, end, Holds, byteAt, Contradict, differ, two-ends, more-after, after-more, Acceptable, _∈_, Contradictory, Same}
+use Rattle.assembly.specs.Piece.{Piece, start, end, Holds, byteAt, Contradict, differ, two-ends, more-after, after-more, Acceptable, Contradictory, Same}
 use Rattle.assembly.specs.Assembly.{State, cleared, opened, byteClash, endClash, clashes, newTotal, newFloor, accept, step, run}
 use Rattle.pkt.proofs.Choice.{or-cases, or-no, both}
 use Rattle.assembly.proofs.Marks.{IsMap, map-mark, bit-mark-out, bit-mark-in, map-ext, getD-zeros, map-zeros, bit-zeros}
@@ -29,13 +29,13 @@ pub record Good (κ : Key) (C M : ℕ) (s : State) (ps : List Piece) : Type 0 wh
   pub plain : s .spoilt ≡ false
   pub size : length (s .payload) ≡ C
   pub is-map : IsMap M (s .map)
-  pub byte-in : (p : Piece) → p ∈ ps → (k : ℕ) → Holds p k → getD (s .payload) k 0 ≡ byteAt p k
+  pub byte-in : (p : Piece) → List·Memᴰ p ps → (k : ℕ) → Holds p k → getD (s .payload) k 0 ≡ byteAt p k
   pub byte-out : (k : ℕ) → None (λ p. Holds p k) ps → getD (s .payload) k 0 ≡ 0
-  pub bit-in : (p : Piece) → p ∈ ps → (b : ℕ) → Holds p (8 * b) → bit (s .map) b ≡ 1
+  pub bit-in : (p : Piece) → List·Memᴰ p ps → (b : ℕ) → Holds p (8 * b) → bit (s .map) b ≡ 1
   pub bit-out : (b : ℕ) → None (λ p. Holds p (8 * b)) ps → bit (s .map) b ≡ 0
-  pub total-in : (p : Piece) → p ∈ ps → p .mf ≡ false → s .total ≡ some (end p)
+  pub total-in : (p : Piece) → List·Memᴰ p ps → p .mf ≡ false → s .total ≡ some (end p)
   pub total-out : None (λ p. p .mf ≡ false) ps → s .total ≡ none
-  pub floor-in : (p : Piece) → p ∈ ps → p .mf ≡ true → end p < s .floor
+  pub floor-in : (p : Piece) → List·Memᴰ p ps → p .mf ≡ true → end p < s .floor
   pub floor-out : (s .floor ≡ 0) ⊎ Some (λ p. (p .mf ≡ true) × (s .floor ≡ suc (end p))) ps
 
 pub data Describes (κ : Key) (C M : ℕ) (s : State) (ps : List Piece) : Type 0 where
@@ -75,7 +75,7 @@ unfolding endClash
 end-total f t e h = leb-false t e h
 
 -- ---- 2. the test finds exactly the contradictions
-module _ (κ : Key) (C M : ℕ) (s : State) (ps : List Piece) (ok : (q : Piece) → q ∈ ps → Acceptable C q) (g : Good κ C M s ps) (p : Piece) where
+module _ (κ : Key) (C M : ℕ) (s : State) (ps : List Piece) (ok : (q : Piece) → List·Memᴰ q ps → Acceptable C q) (g : Good κ C M s ps) (p : Piece) where
   -- a member with MF clear has the known total for its end; one with MF set has the floor less one
   total-from : (t : ℕ) → s .total ≡ some t → Some (λ q. (q .mf ≡ false) × (end q ≡ t)) ps
   unfolding Some
@@ -118,7 +118,7 @@ module _ (κ : Key) (C M : ℕ) (s : State) (ps : List Piece) (ok : (q : Piece) 
       past q h a n false true eq ep = after-more eq ep (omega arith)
       past q h a n false false eq ep = two-ends eq ep (λ z. omega arith)
 
-      at : (q : Piece) → q ∈ ps → Holds q (8 * (c .place / 8)) → Dec (c .place < end q) → Contradict q p
+      at : (q : Piece) → List·Memᴰ q ps → Holds q (8 * (c .place / 8)) → Dec (c .place < end q) → Contradict q p
       at q m h (yes y) =
           let hq : Holds q (c .place) = record { from = omega arith; till = y } in
           differ (c .place) hq (record { from = c .from; till = c .till })
@@ -192,11 +192,11 @@ module _ (κ : Key) (C M : ℕ) (s : State) (ps : List Piece) (ok : (q : Piece) 
           past (yes y) lo = absurd (h (record { from = lo; till = y }))
           past (no z) lo = omega arith
 
-      same-byte : (q : Piece) → q ∈ ps → (k : ℕ) → Holds q k → Holds p k → Dec (byteAt q k ≡ byteAt p k) → byteAt p k ≡ byteAt q k
+      same-byte : (q : Piece) → List·Memᴰ q ps → (k : ℕ) → Holds q k → Holds p k → Dec (byteAt q k ≡ byteAt p k) → byteAt p k ≡ byteAt q k
       same-byte q m k hq hp (yes e) = sym e
       same-byte q m k hq hp (no ne) = absurd (f q m (differ k hq hp ne))
 
-      old : (q : Piece) → q ∈ ps → (k : ℕ) → Holds q k → Dec (Holds p k) → getD (sets (s .payload) (start p) (p .body)) k 0 ≡ byteAt q k
+      old : (q : Piece) → List·Memᴰ q ps → (k : ℕ) → Holds q k → Dec (Holds p k) → getD (sets (s .payload) (start p) (p .body)) k 0 ≡ byteAt q k
       old q m k h (yes y) = own k y ∙ same-byte q m k h y (ℕ-discrete (byteAt q k) (byteAt p k))
       old q m k h (no z) = out k z ∙ g .byte-in q m k h
 
@@ -210,7 +210,7 @@ module _ (κ : Key) (C M : ℕ) (s : State) (ps : List Piece) (ok : (q : Piece) 
           past (yes y) lo = absurd (h (record { from = omega arith; till = y }))
           past (no z) lo = omega arith
 
-      old-bit : (q : Piece) → q ∈ ps → (b : ℕ) → Holds q (8 * b) → Dec (Holds p (8 * b)) → bit (mark (s .map) (p .off) n) b ≡ 1
+      old-bit : (q : Piece) → List·Memᴰ q ps → (b : ℕ) → Holds q (8 * b) → Dec (Holds p (8 * b)) → bit (mark (s .map) (p .off) n) b ≡ 1
       old-bit q m b h (yes y) = own-bit b y
       old-bit q m b h (no z) = out-bit b z ∙ g .bit-in q m b h
 
@@ -218,11 +218,11 @@ module _ (κ : Key) (C M : ℕ) (s : State) (ps : List Piece) (ok : (q : Piece) 
       own-total true e = absurd (true≢false e)
       own-total false e = refl
 
-      same-end : (q : Piece) → q ∈ ps → q .mf ≡ false → p .mf ≡ false → Dec (end q ≡ end p) → some (end p) ≡ some (end q)
+      same-end : (q : Piece) → List·Memᴰ q ps → q .mf ≡ false → p .mf ≡ false → Dec (end q ≡ end p) → some (end p) ≡ some (end q)
       same-end q m eq ep (yes e) = ap some (sym e)
       same-end q m eq ep (no ne) = absurd (f q m (two-ends eq ep ne))
 
-      old-total : (q : Piece) → q ∈ ps → q .mf ≡ false → (b : Bool) → p .mf ≡ b → newTotal b (s .total) (end p) ≡ some (end q)
+      old-total : (q : Piece) → List·Memᴰ q ps → q .mf ≡ false → (b : Bool) → p .mf ≡ b → newTotal b (s .total) (end p) ≡ some (end q)
       old-total q m e true eb = g .total-in q m e
       old-total q m e false eb = same-end q m e eb (ℕ-discrete (end q) (end p))
 
@@ -234,7 +234,7 @@ module _ (κ : Key) (C M : ℕ) (s : State) (ps : List Piece) (ok : (q : Piece) 
       own-floor true e = omega arith
       own-floor false e = absurd (true≢false (sym e))
 
-      old-floor : (q : Piece) → q ∈ ps → q .mf ≡ true → (b : Bool) → end q < newFloor b (s .floor) (end p)
+      old-floor : (q : Piece) → List·Memᴰ q ps → q .mf ≡ true → (b : Bool) → end q < newFloor b (s .floor) (end p)
       old-floor q m e true = omega (arith, g .floor-in q m e)
       old-floor q m e false = g .floor-in q m e
 
@@ -256,17 +256,17 @@ more p c = record { one = c .one; other = c .other; one-in = List·Memᴰ·tail 
 still : {ps : List Piece} {p : Piece} → (Contradictory ps → ⊥) → None (λ q. Contradict q p) ps → Contradictory (p ∷ ps) → ⊥
 unfolding None
 still {ps} {p} n f c =
-    all-cons {P = λ x. (y : Piece) → y ∈ (p ∷ ps) → Contradict x y → ⊥}
+    all-cons {P = λ x. (y : Piece) → List·Memᴰ y (p ∷ ps) → Contradict x y → ⊥}
     (all-cons {P = λ y. Contradict p y → ⊥} (λ h. Contradict·irrefl h) (λ q m h. f q m (Contradict·sym h)))
     (λ q m. all-cons {P = λ y. Contradict q y → ⊥} (f q m) (λ r k h. n (record { one = q; other = r; one-in = m; other-in = k; clash = h })))
     (c .one) (c .one-in) (c .other) (c .other-in) (c .clash)
 
-pub step-describes : (κ : Key) (C M : ℕ) (s : State) (ps : List Piece) (p : Piece) → C ≤ 64 * M → ((q : Piece) → q ∈ (p ∷ ps) → Acceptable C q)
+pub step-describes : (κ : Key) (C M : ℕ) (s : State) (ps : List Piece) (p : Piece) → C ≤ 64 * M → ((q : Piece) → List·Memᴰ q (p ∷ ps) → Acceptable C q)
     → Describes κ C M s ps → Describes κ C M (step s p) (p ∷ ps)
 unfolding step Some
 step-describes κ C M s ps p room ok d = go d (s .spoilt) refl
   where
-    old : (q : Piece) → q ∈ ps → Acceptable C q
+    old : (q : Piece) → List·Memᴰ q ps → Acceptable C q
     old q m = ok q (List·Memᴰ·tail m)
 
     found : Some (λ q. Contradict q p) ps → Contradictory (p ∷ ps)
@@ -327,19 +327,19 @@ one-state κ C M s s′ ps qs same (sound n g) (spoiled c′ e′) = absurd (n (
 one-state κ C M s s′ ps qs same (sound n g) (sound n′ g′) = one-good κ C M s s′ ps qs same g g′
 
 -- ---- 4. any order, any repeats
-rev-in : (ps qs : List Piece) (q : Piece) → (q ∈ ps) ⊎ (q ∈ qs) → q ∈ reverseAux ps qs
+rev-in : (ps qs : List Piece) (q : Piece) → List·Memᴰ q ps ⊎ List·Memᴰ q qs → List·Memᴰ q (reverseAux ps qs)
 rev-in [] qs q (inl m) = absurd (List·Memᴰ·not-nil m)
 rev-in [] qs q (inr m) = m
-rev-in (p ∷ ps) qs q (inl m) = rev-in ps (p ∷ qs) q (⊎-elim (λ (e : q ≡ p). inr (List·Memᴰ·head e)) (λ (h : q ∈ ps). inl h) (List·Memᴰ·cases-cons m))
+rev-in (p ∷ ps) qs q (inl m) = rev-in ps (p ∷ qs) q (⊎-elim (λ (e : q ≡ p). inr (List·Memᴰ·head e)) (λ (h : List·Memᴰ q ps). inl h) (List·Memᴰ·cases-cons m))
 rev-in (p ∷ ps) qs q (inr m) = rev-in ps (p ∷ qs) q (inr (List·Memᴰ·tail m))
 
-rev-out : (ps qs : List Piece) (q : Piece) → q ∈ reverseAux ps qs → (q ∈ ps) ⊎ (q ∈ qs)
+rev-out : (ps qs : List Piece) (q : Piece) → List·Memᴰ q (reverseAux ps qs) → List·Memᴰ q ps ⊎ (List·Memᴰ q qs)
 rev-out [] qs q m = inr m
 rev-out (p ∷ ps) qs q m = go (rev-out ps (p ∷ qs) q m)
   where
-    go : (q ∈ ps) ⊎ (q ∈ (p ∷ qs)) → (q ∈ (p ∷ ps)) ⊎ (q ∈ qs)
+    go : List·Memᴰ q ps ⊎ (List·Memᴰ q (p ∷ qs)) → (List·Memᴰ q (p ∷ ps)) ⊎ (List·Memᴰ q qs)
     go (inl h) = inl (List·Memᴰ·tail h)
-    go (inr h) = ⊎-elim (λ (e : q ≡ p). inl (List·Memᴰ·head e)) (λ (k : q ∈ qs). inr k) (List·Memᴰ·cases-cons h)
+    go (inr h) = ⊎-elim (λ (e : q ≡ p). inl (List·Memᴰ·head e)) (λ (k : List·Memᴰ q qs). inr k) (List·Memᴰ·cases-cons h)
 
 same-good : {κ : Key} {C M : ℕ} {s : State} {ps qs : List Piece} → Same ps qs → Good κ C M s ps → Good κ C M s qs
 unfolding Some None
@@ -363,24 +363,24 @@ same-describes : {κ : Key} {C M : ℕ} {s : State} {ps qs : List Piece} → Sam
 same-describes same (spoiled c e) = spoiled (Contradictory·same same c) e
 same-describes same (sound n g) = sound (λ c. n (Contradictory·same (Same·sym same) c)) (same-good same g)
 
-run-from : (κ : Key) (C M : ℕ) (s : State) (ps qs : List Piece) → C ≤ 64 * M → ((q : Piece) → q ∈ reverseAux ps qs → Acceptable C q)
+run-from : (κ : Key) (C M : ℕ) (s : State) (ps qs : List Piece) → C ≤ 64 * M → ((q : Piece) → List·Memᴰ q (reverseAux ps qs) → Acceptable C q)
     → Describes κ C M s qs → Describes κ C M (run s ps) (reverseAux ps qs)
 unfolding run
 run-from κ C M s [] qs room ok d = d
 run-from κ C M s (p ∷ ps) qs room ok d =
     run-from κ C M (step s p) ps (p ∷ qs) room ok (step-describes κ C M s qs p room (λ q m. ok q (rev-in ps (p ∷ qs) q (inr m))) d)
 
-pub run-describes : (κ : Key) (C M : ℕ) (ps : List Piece) → C ≤ 64 * M → ((q : Piece) → q ∈ ps → Acceptable C q) → Describes κ C M (run (opened κ C M) ps) ps
+pub run-describes : (κ : Key) (C M : ℕ) (ps : List Piece) → C ≤ 64 * M → ((q : Piece) → List·Memᴰ q ps → Acceptable C q) → Describes κ C M (run (opened κ C M) ps) ps
 run-describes κ C M ps room ok =
-    same-describes (record { to = λ q m. ⊎-elim (λ (h : q ∈ ps). h) (λ (h : q ∈ []). absurd (List·Memᴰ·not-nil h)) (rev-out ps [] q m); from = λ q m. rev-in ps [] q (inl m) })
-    (run-from κ C M (opened κ C M) ps [] room (λ q m. ok q (⊎-elim (λ (h : q ∈ ps). h) (λ (h : q ∈ []). absurd (List·Memᴰ·not-nil h)) (rev-out ps [] q m))) (opened-describes κ C M))
+    same-describes (record { to = λ q m. ⊎-elim (λ (h : List·Memᴰ q ps). h) (λ (h : List·Memᴰ q []). absurd (List·Memᴰ·not-nil h)) (rev-out ps [] q m); from = λ q m. rev-in ps [] q (inl m) })
+    (run-from κ C M (opened κ C M) ps [] room (λ q m. ok q (⊎-elim (λ (h : List·Memᴰ q ps). h) (λ (h : List·Memᴰ q []). absurd (List·Memᴰ·not-nil h)) (rev-out ps [] q m))) (opened-describes κ C M))
 
-pub any-order : (κ : Key) (C M : ℕ) (ps qs : List Piece) → C ≤ 64 * M → ((q : Piece) → q ∈ ps → Acceptable C q) → Same ps qs → run (opened κ C M) ps ≡ run (opened κ C M) qs
+pub any-order : (κ : Key) (C M : ℕ) (ps qs : List Piece) → C ≤ 64 * M → ((q : Piece) → List·Memᴰ q ps → Acceptable C q) → Same ps qs → run (opened κ C M) ps ≡ run (opened κ C M) qs
 any-order κ C M ps qs room ok same =
     one-state κ C M (run (opened κ C M) ps) (run (opened κ C M) qs) ps qs same (run-describes κ C M ps room ok)
     (run-describes κ C M qs room (λ q m. ok q (same .from q m)))
 
-pub spoilt-exactly : (κ : Key) (C M : ℕ) (ps : List Piece) → C ≤ 64 * M → ((q : Piece) → q ∈ ps → Acceptable C q)
+pub spoilt-exactly : (κ : Key) (C M : ℕ) (ps : List Piece) → C ≤ 64 * M → ((q : Piece) → List·Memᴰ q ps → Acceptable C q)
     → (run (opened κ C M) ps .spoilt ≡ true) ↔ Contradictory ps
 spoilt-exactly κ C M ps room ok = go (run-describes κ C M ps room ok)
   where

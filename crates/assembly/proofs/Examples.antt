@@ -1,22 +1,18 @@
 -- Document 01's worked examples of an assembly, by computing at the full size.
 use mathlib.Core.Path.{_≡_, refl}
-use mathlib.Core.List.{List, [], _∷_}
+use mathlib.Core.List.{[], _∷_}
 use Rattle.assembly.specs.declared.Key.{Key}
 use Rattle.assembly.specs.Map.{bit, setBit, mark, marked}
-use Rattle.assembly.specs.Piece.{Piece}
-use Rattle.assembly.specs.Assembly.{opened, run, step, clashes, endClash, byteClash, accept, newTotal, newFloor, heldTo, outcome, Outcome, isWaiting, isSpoilt}
+use Rattle.assembly.specs.Assembly.{opened, run, step, clashes, endClash, byteClash, accept, newTotal, newFloor, heldTo, outcome, isWaiting, isSpoilt}
 use Rattle.assembly.specs.Calls.{capacity, mapBytes}
 use Rattle.assembly.specs.Cut.{cut, twenty}
 
-abbrev pub after : Key → List Piece → Outcome
-after k ps = outcome (run (opened k capacity mapBytes) ps)
-
 -- "Pieces (0,1) and (3,1) of n = 20: waiting."
-pub two-wait : (k : Key) → after k (cut twenty 0 1 ∷ cut twenty 3 1 ∷ []) ≡ isWaiting
+pub two-wait : (k : Key) → outcome (run (opened k capacity mapBytes) (cut twenty 0 1 ∷ cut twenty 3 1 ∷ [])) ≡ isWaiting
 unfolding outcome heldTo marked run step clashes endClash byteClash accept newTotal newFloor cut mark setBit bit
 two-wait k = refl
 
 -- "With (2,1) too: spoilt" (in all six orders, by `one-end`)
-pub three-spoil : (k : Key) → after k (cut twenty 0 1 ∷ cut twenty 3 1 ∷ cut twenty 2 1 ∷ []) ≡ isSpoilt
+pub three-spoil : (k : Key) → outcome (run (opened k capacity mapBytes) (cut twenty 0 1 ∷ cut twenty 3 1 ∷ cut twenty 2 1 ∷ [])) ≡ isSpoilt
 unfolding outcome heldTo marked run step clashes endClash byteClash accept newTotal newFloor cut mark setBit bit
 three-spoil k = refl

@@ -13,9 +13,10 @@ use lib.Bits.{bitOr, or-lt}
 use lib.Pow.{pow-pos, pow-lt}
 use borrow.Author.Tests.{eqb-true, eq-eqb}
 use lib.Dec.{eqb}
-use Rattle.assembly.specs.Map.{bit, setBit, mark, marked, zeros}
+use Rattle.assembly.specs.Map.{bit, setBit, mark, marked}
 use Rattle.pkt.proofs.Choice.{and-both, both, fails}
 use Rattle.assembly.proofs.Bits.{or-bit, pow-bit-same, pow-bit-other, ones-bit, byte-ext}
+use Rattle.pkt.specs.Written.{zeros}
 
 -- a list of M bytes
 pub record IsMap (M : ℕ) (m : List ℕ) : Type 0 where

@@ -3,14 +3,14 @@ use mathlib.Core.Path.{_≡_, refl, sym, ap, _∙_}
 use mathlib.Core.Logic.{_↔_, _⊎_, inl, inr}
 use mathlib.Core.Bool.{Bool, true, false, not, true≢false, Bool-discrete}
 use mathlib.Core.Option.{Option, none, some}
-use mathlib.Core.List.{List, [], _∷_, List·Memᴰ·head, List·Memᴰ·not-nil}
+use mathlib.Core.List.{List, [], _∷_, List·Memᴰ·head, List·Memᴰ·not-nil, List·Memᴰ}
 use Prim.Native.Nat.{ℕ, zero, suc, _+_, _*_, _-_, _/_, _%_, _≤_, _<_, min}
 use native.Mathlib.Omega.{arith}
 use lib.ListN.{length, getD, take}
 use lib.Seq.{slice, length-slice, ext-getD, getD-take, getD-drop, length-take-le}
 use borrow.Author.Tests.{eqb-true, eqb-false, not-true, not-false}
 use Rattle.assembly.specs.declared.Key.{Key}
-use Rattle.assembly.specs.Piece.{Piece, end, Holds, byteAt, Contradict, differ, two-ends, more-after, after-more, Acceptable, _∈_, Contradictory}
+use Rattle.assembly.specs.Piece.{Piece, end, Holds, byteAt, Contradict, differ, two-ends, more-after, after-more, Acceptable, Contradictory}
 use Rattle.assembly.specs.Map.{marked}
 use Rattle.assembly.specs.Assembly.{State, opened, run, heldTo, complete}
 use Rattle.assembly.specs.Cut.{cut, Part, Covers}
@@ -20,12 +20,12 @@ use Rattle.assembly.proofs.Pieces.{Some, None, any, holds?}
 use Rattle.assembly.proofs.Describes.{Good, Describes, spoiled, sound, run-describes}
 
 -- ---- document 01's "Complete: total known and every byte below it held", for any accepted pieces
-pub complete-exactly : (κ : Key) (C M : ℕ) (s : State) (ps : List Piece) → ((q : Piece) → q ∈ ps → Acceptable C q) → Good κ C M s ps
+pub complete-exactly : (κ : Key) (C M : ℕ) (s : State) (ps : List Piece) → ((q : Piece) → List·Memᴰ q ps → Acceptable C q) → Good κ C M s ps
     → (complete s ≡ true) ↔ ((t : ℕ) × (s .total ≡ some t) × Covers ps t)
 unfolding complete heldTo Covers Some None
 complete-exactly κ C M s ps ok g = (λ e. known (s .total) refl (and-both (not (s .spoilt)) (heldTo (s .map) (s .total)) e .1), λ h. rw (g .plain, h .1) (marked-of (s .map) ((h .0 + 7) / 8) (λ b hb. let q = h .2 (8 * b) (omega arith) in g .bit-in (q .0) (q .1) b (q .2))))
   where
-    held : (t : ℕ) → s .total ≡ some t → (k : ℕ) → k < t → (q : Piece) → q ∈ ps → Holds q (8 * (k / 8)) → (b : Bool) → q .mf ≡ b → Holds q k
+    held : (t : ℕ) → s .total ≡ some t → (k : ℕ) → k < t → (q : Piece) → List·Memᴰ q ps → Holds q (8 * (k / 8)) → (b : Bool) → q .mf ≡ b → Holds q k
     held t et k hk q m h true e = let w = ok q m .whole e in record { from = omega arith; till = omega arith }
     held t et k hk q m h false e =
         let r = g .total-in q m e in
@@ -104,20 +104,20 @@ agree a b (two-ends mp mq ne) = ne (a .last mp ∙ sym (b .last mq))
 agree a b (more-after mp mq le) = omega (arith, a .more mp, b .last mq)
 agree a b (after-more mp mq le) = omega (arith, a .last mp, b .more mq)
 
-pub parts-agree : (d : List ℕ) (ps : List Piece) → ((p : Piece) → p ∈ ps → Part d p) → Contradictory ps → ⊥
+pub parts-agree : (d : List ℕ) (ps : List Piece) → ((p : Piece) → List·Memᴰ p ps → Part d p) → Contradictory ps → ⊥
 parts-agree d ps parts c = agree (part-of (parts (c .one) (c .one-in))) (part-of (parts (c .other) (c .other-in))) (c .clash)
 
-mem-length : {p : Piece} {ps : List Piece} → p ∈ ps → 0 < length ps
+mem-length : {p : Piece} {ps : List Piece} → List·Memᴰ p ps → 0 < length ps
 mem-length {p} {ps = []} m = absurd (List·Memᴰ·not-nil m)
 mem-length {p} {ps = q ∷ ps} m = omega arith
 
-first : (ps : List Piece) → 0 < length ps → (p : Piece) × (p ∈ ps)
+first : (ps : List Piece) → 0 < length ps → (p : Piece) × (List·Memᴰ p ps)
 first [] h = absurd (omega arith)
 first (p ∷ ps) h = (p, List·Memᴰ·head refl)
 
 -- ---- all built from one payload that fits: accepted (`part-acceptable`), never spoilt, complete exactly when covered, and then it is held
-module _ (κ : Key) (C M : ℕ) (d : List ℕ) (ps : List Piece) (room : C ≤ 64 * M) (fits : length d ≤ C) (parts : (p : Piece) → p ∈ ps → Part d p) where
-  parts-ok : (q : Piece) → q ∈ ps → Acceptable C q
+module _ (κ : Key) (C M : ℕ) (d : List ℕ) (ps : List Piece) (room : C ≤ 64 * M) (fits : length d ≤ C) (parts : (p : Piece) → List·Memᴰ p ps → Part d p) where
+  parts-ok : (q : Piece) → List·Memᴰ q ps → Acceptable C q
   parts-ok q m = part-acceptable C d q fits (parts q m)
 
   pub parts-good : Good κ C M (run (opened κ C M) ps) ps
@@ -144,7 +144,7 @@ module _ (κ : Key) (C M : ℕ) (d : List ℕ) (ps : List Piece) (room : C ≤ 6
   unfolding Some Covers
   parts-last h cov = go (length d) refl
     where
-      ends : (q : Piece) → q ∈ ps → length d ≤ end q → (b : Bool) → q .mf ≡ b → run (opened κ C M) ps .total ≡ some (length d)
+      ends : (q : Piece) → List·Memᴰ q ps → length d ≤ end q → (b : Bool) → q .mf ≡ b → run (opened κ C M) ps .total ≡ some (length d)
       ends q m le true e = absurd (omega (arith, part-of (parts q m) .more e))
       ends q m le false e = parts-good .total-in q m e ∙ ap some (part-of (parts q m) .last e)
 

@@ -1,11 +1,11 @@
 -- Pieces as members of a list: contradiction goes both ways, a list has a member of a kind or none, and blocks.
 use mathlib.Core.Path.{_≡_, refl, sym, subst}
 use mathlib.Core.Logic.{_↔_, _⊎_, inl, inr}
-use mathlib.Core.List.{List, [], _∷_, List·Memᴰ·head, List·Memᴰ·tail, List·Memᴰ·not-nil, List·Memᴰ·cases-cons}
+use mathlib.Core.List.{List, [], _∷_, List·Memᴰ·head, List·Memᴰ·tail, List·Memᴰ·not-nil, List·Memᴰ·cases-cons, List·Memᴰ}
 use Prim.Native.Nat.{ℕ, _*_, _/_, _≤_, _<_}
 use native.Mathlib.Decide.{decLe, decLt}
 use native.Mathlib.Omega.{arith}
-use Rattle.assembly.specs.Piece.{Piece, start, end, Holds, Contradict, differ, two-ends, more-after, after-more, _∈_, Contradictory, Same}
+use Rattle.assembly.specs.Piece.{Piece, start, end, Holds, Contradict, differ, two-ends, more-after, after-more, Contradictory, Same}
 use Rattle.pkt.proofs.Choice.{both}
 
 pub Same·sym : {ps qs : List Piece} → Same ps qs → Same qs ps
@@ -28,15 +28,15 @@ Contradictory·same s c = record { one = c .one; other = c .other; one-in = s .t
 
 -- some member has P, or none has
 unfoldable pub Some : (Piece → Type 0) → List Piece → Type 0
-Some P ps = (p : Piece) × (p ∈ ps) × P p
+Some P ps = (p : Piece) × List·Memᴰ p ps × P p
 
 unfoldable pub None : (Piece → Type 0) → List Piece → Type 0
-None P ps = (p : Piece) → p ∈ ps → P p → ⊥
+None P ps = (p : Piece) → List·Memᴰ p ps → P p → ⊥
 
-pub all-cons : {P : Piece → Type 0} {p : Piece} {ps : List Piece} → P p → ((q : Piece) → q ∈ ps → P q) → (q : Piece) → q ∈ (p ∷ ps) → P q
+pub all-cons : {P : Piece → Type 0} {p : Piece} {ps : List Piece} → P p → ((q : Piece) → List·Memᴰ q ps → P q) → (q : Piece) → List·Memᴰ q (p ∷ ps) → P q
 all-cons {P} {p} {ps} h f q m = go (List·Memᴰ·cases-cons m)
   where
-    go : (q ≡ p) ⊎ (q ∈ ps) → P q
+    go : (q ≡ p) ⊎ List·Memᴰ q ps → P q
     go (inl e) = subst P (sym e) h
     go (inr m) = f q m
 

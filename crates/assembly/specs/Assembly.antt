@@ -8,8 +8,9 @@ use lib.ListN.{length, getD, take}
 use lib.Seq.{sets}
 use lib.Dec.{leb, ltb, eqb}
 use Rattle.assembly.specs.declared.Key.{Key}
-use Rattle.assembly.specs.Map.{bit, mark, marked, zeros}
+use Rattle.assembly.specs.Map.{bit, mark, marked}
 use Rattle.assembly.specs.Piece.{Piece, start, end}
+use Rattle.pkt.specs.Written.{zeros}
 
 -- "a lent payload buffer .., a lent map .., and a record: key, total (known or not), floor, spoilt"
 pub record State : Type 0 where

@@ -3,21 +3,21 @@ use mathlib.Core.Path.{_≡_}
 use mathlib.Core.Logic.{_↔_}
 use mathlib.Core.Bool.{true, false}
 use mathlib.Core.Option.{some}
-use mathlib.Core.List.{List, _++_}
+use mathlib.Core.List.{List, _++_, List·Memᴰ}
 use Prim.Native.Nat.{ℕ, _*_, _≤_, _<_}
 use lib.ListN.{length, take}
 use Rattle.assembly.specs.declared.Key.{Key}
-use Rattle.assembly.specs.Piece.{Piece, Contradict, Acceptable, _∈_, Contradictory, Same}
+use Rattle.assembly.specs.Piece.{Piece, Contradict, Acceptable, Contradictory, Same}
 use Rattle.assembly.specs.Assembly.{opened, run, complete, valid, whole}
 use Rattle.assembly.specs.Cut.{cut, Part, Covers}
 
 -- each of ps is acceptable
 abbrev pub AllAcceptable : ℕ → List Piece → Type 0
-AllAcceptable C ps = (p : Piece) → p ∈ ps → Acceptable C p
+AllAcceptable C ps = (p : Piece) → List·Memᴰ p ps → Acceptable C p
 
 -- every one of ps was built from d, and none asked for past its end
 abbrev pub Built : List ℕ → List Piece → Type 0
-Built d ps = (p : Piece) → p ∈ ps → Part d p
+Built d ps = (p : Piece) → List·Memᴰ p ps → Part d p
 
 pub record Assembles (k : Key) (C M : ℕ) : Type 0 where
   -- "The same accepted pieces, in any order and with any repeats, end in the same state,
@@ -39,6 +39,6 @@ pub record Assembles (k : Key) (C M : ℕ) : Type 0 where
   pub past-end : (d : List ℕ) (off len : ℕ) → length d < 8 * off → (p : Piece) → Part d p → p .mf ≡ false → Contradict (cut d off len) p
   -- .. so with both among the accepted pieces, whichever came first, the state is spoilt
   pub past-end-spoils : (d : List ℕ) (off len : ℕ) → length d < 8 * off → (p : Piece) → Part d p → p .mf ≡ false
-      → (ps : List Piece) → AllAcceptable C ps → cut d off len ∈ ps → p ∈ ps → run (opened k C M) ps .spoilt ≡ true
+      → (ps : List Piece) → AllAcceptable C ps → List·Memᴰ (cut d off len) ps → List·Memᴰ p ps → run (opened k C M) ps .spoilt ≡ true
   -- and no state that accepted pieces lead to is refused by 11
   pub stays-valid : (ps : List Piece) → AllAcceptable C ps → valid (run (opened k C M) ps) ≡ true

@@ -2,13 +2,9 @@
 use mathlib.Core.Bool.{Bool, true, _&&_}
 use mathlib.Core.List.{List}
 use Prim.Native.Nat.{ℕ, zero, suc, _/_, _%_, _^_}
-use lib.ListN.{getD, set, replicate}
+use lib.ListN.{getD, set}
 use lib.Bits.{bitOr}
 use lib.Dec.{eqb}
-
--- n bytes of zero
-abbrev pub zeros : ℕ → List ℕ
-zeros n = replicate n 0
 
 -- block k of the map: 1 if it is marked, else 0
 unfoldable pub bit : List ℕ → ℕ → ℕ

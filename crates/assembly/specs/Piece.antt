@@ -42,20 +42,15 @@ pub record Acceptable (C : ℕ) (p : Piece) : Type 0 where
   pub whole : p .mf ≡ true → length (p .body) % 8 ≡ 0
   pub fits : end p ≤ C
 
--- p is one of ps
-abbrev pub _∈_ : Piece → List Piece → Type 0
-p ∈ ps = List·Memᴰ p ps
-
-infix 50 _∈_
 -- two of ps contradict each other
 pub record Contradictory (ps : List Piece) : Type 0 where
   pub one : Piece
   pub other : Piece
-  pub one-in : one ∈ ps
-  pub other-in : other ∈ ps
+  pub one-in : List·Memᴰ one ps
+  pub other-in : List·Memᴰ other ps
   pub clash : Contradict one other
 
 -- the same pieces, "in any order and with any repeats" (demand 3)
 pub record Same (ps qs : List Piece) : Type 0 where
-  pub to : (p : Piece) → p ∈ ps → p ∈ qs
-  pub from : (p : Piece) → p ∈ qs → p ∈ ps
+  pub to : (p : Piece) → List·Memᴰ p ps → List·Memᴰ p qs
+  pub from : (p : Piece) → List·Memᴰ p qs → List·Memᴰ p ps

@@ -3,7 +3,7 @@ ghost use mathlib.Core.Path.{_≡_};
 ghost use Prim.Native.Nat.{_+_, _-_, _≤_};
 ghost use lib.ListN.{length, replicate};
 ghost use lib.Seq.{sets};
-ghost use Rattle.assembly.specs.Map.{zeros};
+ghost use Rattle.pkt.specs.Written.{zeros};
 
 // Stores v at every place from `from` up to, not including, `to`.
 pub(crate) fn fill(b: &mut [u8], from: usize, to: usize, v: u8)

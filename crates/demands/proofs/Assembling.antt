@@ -3,25 +3,24 @@ use mathlib.Core.Path.{_≡_, refl, sym, ap, subst, _∙_}
 use mathlib.Core.Logic.{_↔_}
 use mathlib.Core.Bool.{Bool, true, false, not}
 use mathlib.Core.List.{List, [], _∷_, _++_, append-assoc, append-nil, List·Memᴰ, List·Memᴰ·head, List·Memᴰ·not-nil, Memᴰ·append-left}
-use Prim.Native.Nat.{ℕ, zero, suc, _+_, _-_, _*_, _≤_, _<_, min}
+use Prim.Native.Nat.{ℕ, _+_, _-_, _*_, _≤_, _<_, min}
 use native.Mathlib.Omega.{arith}
-use lib.ListN.{length, take, drop, length-append}
-use lib.Seq.{slice, length-slice, take-nil, take-at, drop-at, take-length}
+use lib.ListN.{length, take, length-append}
+use lib.Seq.{slice, length-slice, take-at, drop-at, take-length}
 use borrow.Author.Tests.{eq-eqb}
 use Rattle.pkt.specs.Answers.{Answer, gives, mapped}
 use Rattle.pkt.specs.Rfc791.{ipHeader}
 use Rattle.pkt.specs.declared.ipv4.«ip_hdr».{«ip_hdr»}
 use Rattle.pkt.proofs.Headers.{ip-length}
-use Rattle.ezpkt.specs.Build.{startOf, endOf, pieceIp, between, piecePacket, packetOf}
+use Rattle.ezpkt.specs.Build.{startOf, endOf, more, pieceIp, piecePacket, packetOf}
 use Rattle.ezpkt.specs.Ip4.{fragmentOf}
 use Rattle.ezpkt.specs.declared.ip4.Template.{Template}
 use Rattle.ezpkt.specs.declared.build.IpPiece.{IpPiece}
-use Rattle.ezpkt.proofs.Sizes.{between-length}
 use Rattle.inspect.specs.Header.{readAnswer, dataOf}
-use Rattle.inspect.specs.Encoded.{readOf, Fit}
-use Rattle.inspect.proofs.Decoding.{decoded}
+use Rattle.inspect.specs.Encoded.{readOf}
+use Rattle.inspect.proofs.Decoding.{decoded, Fit}
 use Rattle.assembly.specs.declared.Key.{Key}
-use Rattle.assembly.specs.Piece.{Piece, end, Holds, Acceptable, _∈_}
+use Rattle.assembly.specs.Piece.{Piece, end, Holds, Acceptable}
 use Rattle.assembly.specs.Assembly.{State, opened, step, run, complete, whole}
 use Rattle.assembly.specs.View.{piece}
 use Rattle.assembly.specs.Cut.{cut, Part, Covers}
@@ -34,18 +33,10 @@ use Rattle.assembly.proofs.Assembles.{assembles-here}
 use Rattle.assembly.proofs.Calls.{shown-yes}
 use Rattle.assembly.proofs.Delivers.{piecesOf, piece-from, piece-in, taken-is, taken-usable, delivers-here}
 use Rattle.demands.specs.Ranges.{Fitting}
-use Rattle.demands.specs.Checked.{more}
-use Rattle.demands.specs.Assembling.{keyOf, Asked, by-fragment, by-tail, by-datagram, PastEnd, AllBuilt, Reached, Cover, taken, Reassembles}
+use Rattle.demands.specs.Assembling.{ipPiece, keyOf, Asked, by-fragment, by-tail, by-datagram, PastEnd, AllBuilt, Reached, Cover, taken, Reassembles}
 use Rattle.demands.proofs.Pieces.{flags-more, flags-offset, piece-fit}
 
 -- ---- the packet of a piece is read back as that piece
-
--- the bytes from s up to e, in two ways
-between-slice : (s e : ℕ) (d : List ℕ) → take (e - s) (drop s d) ≡ slice s e d
-between-slice zero e d = let z : e - 0 ≡ e = omega arith in rw z refl
-between-slice (suc s) zero d = let z : 0 - suc s ≡ 0 = omega arith in rw z refl
-between-slice (suc s) (suc e) [] = take-nil (suc e - suc s)
-between-slice (suc s) (suc e) (x ∷ d) = let z : suc e - suc s ≡ e - s = omega arith in rw z (between-slice s e d)
 
 -- A piece asked for up to the payload's end has MF clear.
 last-clear : (d : List ℕ) (off len : ℕ) → length d ≤ 8 * off + 8 * len → cut d off len .mf ≡ false
@@ -55,20 +46,20 @@ last-clear d off len h = let e : min (8 * off + 8 * len) (length d) ≡ length d
 module _ (t : Template) (d : List ℕ) (fits : Fitting t) (few : length d ≤ capacity) where
   module _ (off len : ℕ) (rest : List ℕ) (low : off ≤ 8191) where
     asked : IpPiece
-    asked = record { template = t; off = off; len = len }
+    asked = ipPiece t off len
 
     m : Bool
     m = more asked (length d)
 
     body : List ℕ
-    body = between (startOf asked (length d)) (endOf asked (length d)) d
+    body = slice (startOf asked (length d)) (endOf asked (length d)) d
 
     header : «ip_hdr»
     header = pieceIp asked (20 + (endOf asked (length d) - startOf asked (length d))) m
 
     body-length : length body ≡ endOf asked (length d) - startOf asked (length d)
     unfolding asked body
-    body-length = between-length (startOf asked (length d)) (endOf asked (length d)) d (omega arith)
+    body-length = length-slice (startOf asked (length d)) (endOf asked (length d)) d (omega arith)
 
     fit : Fit header
     unfolding asked header
@@ -94,13 +85,12 @@ module _ (t : Template) (d : List ℕ) (fits : Fitting t) (few : length d ≤ ca
         let held : dataOf (readOf header) wire ≡ slice (startOf asked (length d)) (endOf asked (length d)) d =
         ap (take (20 + n - 20)) (drop-at (ipHeader header) (body ++ rest) 20 (ip-length header))
         ∙ take-at body rest (20 + n - 20) (sym size)
-        ∙ between-slice (startOf asked (length d)) (endOf asked (length d)) d
         in
         λ i. piece (flags-offset asked m low i) (flags-more asked m low i) (held i)
 
     -- A piece that ends within the capacity is accepted, and carries the cut.
     carried : end (cut d off len) ≤ capacity → pieceAnswer capacity (keyOf t) (packetOf (fragmentOf t off len) d ++ rest) ≡ gives (cut d off len)
-    unfolding asked header readOf
+    unfolding asked header readOf keyOf
     carried room =
         let ok : Acceptable capacity (pieceOf wire (readOf header)) = rw piece-is (record { whole = cut-whole d off len; fits = room }) in
         ap (pieceAnswer capacity (keyOf t)) wire-is
@@ -172,7 +162,7 @@ module _ (t : Template) (d : List ℕ) (fits : Fitting t) (few : length d ≤ ca
             let (off, len, y) = a l (List·Memᴰ·head refl) in
             mem-length (piece-in capacity (keyOf t) (l ∷ ms) l (cut d off len) (record { handed = List·Memᴰ·head refl; carries = asked-carries l off len y }))
           where
-            mem-length : {p : Piece} {qs : List Piece} → p ∈ qs → 0 < length qs
+            mem-length : {p : Piece} {qs : List Piece} → List·Memᴰ p qs → 0 < length qs
             mem-length {p} {qs = []} m = absurd (List·Memᴰ·not-nil m)
             mem-length {p} {qs = q ∷ qs} m = omega arith
 
@@ -185,7 +175,7 @@ module _ (t : Template) (d : List ℕ) (fits : Fitting t) (few : length d ≤ ca
         go (l ∷ ms) h = omega arith
 
     -- The pieces hold every place exactly if every place was asked for.
-    reached : (j : ℕ) (p : Piece) → p ∈ ps → Holds p j → Reached t d ls j
+    reached : (j : ℕ) (p : Piece) → List·Memᴰ p ps → Holds p j → Reached t d ls j
     unfolding ps cut
     reached j p m h =
         let x = piece-from capacity (keyOf t) ls p m in
@@ -203,7 +193,7 @@ module _ (t : Template) (d : List ℕ) (fits : Fitting t) (few : length d ≤ ca
           till = omega (arith, in-it .till, asked-end off len low);
         }
 
-    held-at : (j : ℕ) → Reached t d ls j → (p : Piece) × (p ∈ ps) × Holds p j
+    held-at : (j : ℕ) → Reached t d ls j → (p : Piece) × List·Memᴰ p ps × Holds p j
     unfolding ps cut
     held-at j r =
         let p : Piece = cut d (r .off) (r .len) in

@@ -4,8 +4,8 @@ use mathlib.Core.Bool.{Bool, true, false, not, _||_, cond}
 use Prim.Native.Nat.{ℕ, _+_, _-_, _≤_, _<_}
 use native.Mathlib.Omega.{arith}
 use mathlib.Core.List.{List, _++_, append-assoc}
-use lib.ListN.{length, take, drop, length-append}
-use lib.Seq.{take-length}
+use lib.ListN.{length, take, length-append}
+use lib.Seq.{slice, length-slice, take-length}
 use lib.Dec.{eqb}
 use borrow.Author.Tests.{eqb-true, not-false}
 use Rattle.pkt.specs.Answers.{Answer, refused, gives}
@@ -20,24 +20,21 @@ use Rattle.pkt.specs.declared.ipv4.«icmp_echo_hdr».{«icmp_echo_hdr»}
 use Rattle.pkt.specs.Fields.{Bytes}
 use Rattle.pkt.proofs.Choice.{or-no}
 use Rattle.pkt.proofs.Headers.{tcp-length, udp-length, echo-length}
-use Rattle.ezpkt.specs.Build.{flowIp, tcpHdr, tcpPacket, udpHdr, udpField, udpPacket, echoType, echoPacket, startOf, endOf, pieceIp, between, piecePacket, packetOf, answerOf, Answered}
+use Rattle.ezpkt.specs.Build.{flowIp, tcpHdr, tcpPacket, udpHdr, udpField, udpPacket, echoType, echoPacket, startOf, endOf, more, pieceIp, piecePacket, packetOf, answerOf}
 use Rattle.ezpkt.specs.declared.build.TcpSegment.{TcpSegment}
 use Rattle.ezpkt.specs.declared.build.UdpDatagram.{UdpDatagram}
 use Rattle.ezpkt.specs.declared.build.IcmpEcho.{IcmpEcho}
 use Rattle.ezpkt.specs.declared.build.IpPiece.{IpPiece}
 use Rattle.ezpkt.specs.declared.build.Request.{Request}
 use Rattle.ezpkt.specs.declared.build.Request.the-variants.{Tcp, Udp, Echo, Piece}
-use Rattle.ezpkt.specs.declared.build.Built.the-variants.{Packet}
 use Rattle.ezpkt.proofs.Deciding.{sized-fits, piece-fits}
-use Rattle.ezpkt.proofs.Sizes.{between-length}
 use Rattle.inspect.specs.Answers.{Verdict, good}
 use Rattle.inspect.specs.Check.{isPiece, partAnswer, checkAnswer}
-use Rattle.inspect.specs.Encoded.{readOf, Fit}
-use Rattle.inspect.proofs.Decoding.{check-encoded}
+use Rattle.inspect.specs.Encoded.{readOf}
+use Rattle.inspect.proofs.Decoding.{check-encoded, Fit}
 use Rattle.inspect.proofs.Sent.{piece-refused, tcp-good, udp-good, udp-bare, echo-good}
 use Rattle.demands.specs.Ranges.{Fitting, Between, InRange}
-use Rattle.demands.specs.Checked.{more, udpVerdict, checkOf}
-use Rattle.demands.proofs.Left.{left-by}
+use Rattle.demands.specs.Checked.{udpVerdict, checkOf}
 use Rattle.demands.proofs.Pieces.{piece-fit, piece-read}
 
 -- an encoded header with its data part, which is answered v where it is no piece
@@ -108,7 +105,7 @@ echo-checked e p r range bp few =
 module _ (q : IpPiece) (p : List ℕ) where
   -- a piece from start up to end, judged
   pieced : ℕ → ℕ → Bool → Answer Verdict
-  pieced start end m = partAnswer (readOf (pieceIp q (20 + (end - start)) m)) (between start end p)
+  pieced start end m = partAnswer (readOf (pieceIp q (20 + (end - start)) m)) (slice start end p)
 
   -- One that is no piece is the whole datagram.
   whole-piece : more q (length p) || not (eqb (q .off) 0) ≡ false
@@ -123,7 +120,7 @@ module _ (q : IpPiece) (p : List ℕ) where
       ap (λ (k : ℕ). pieced k (endOf q (length p)) (more q (length p))) at-start
       ∙ ap (λ (k : ℕ). pieced 0 k (more q (length p))) at-end
       ∙ ap (λ (m : Bool). pieced 0 (length p) m) (w .0)
-      ∙ ap (λ (k : ℕ). partAnswer (readOf (pieceIp q (20 + k) false)) (take k p)) n
+      ∙ ap (λ (k : ℕ). partAnswer (readOf (pieceIp q (20 + k) false)) (take (length p) p)) n
       ∙ ap (partAnswer (readOf (pieceIp q (20 + length p) false))) (take-length p)
 
   pub piece-checked : (r : List ℕ) → Fitting (q .template) → q .off ≤ 8191 → length p ≤ 65515 → checkAnswer (piecePacket q p ++ r) ≡ checkOf (Piece q) p
@@ -133,8 +130,8 @@ module _ (q : IpPiece) (p : List ℕ) where
       let end : ℕ = endOf q (length p) in
       let m : Bool = more q (length p) in
       let h : «ip_hdr» = pieceIp q (20 + (end - start)) m in
-      let d : List ℕ = between start end p in
-      let size : length d ≡ end - start = between-length start end p (omega arith) in
+      let d : List ℕ = slice start end p in
+      let size : length d ≡ end - start = length-slice start end p (omega arith) in
       let v : Answer Verdict = partAnswer (readOf (pieceIp q (20 + length p) false)) p in
       let field = piece-read q (20 + (end - start)) m off in
       let fit = piece-fit q (20 + (end - start)) m fits off (omega arith) in
@@ -152,8 +149,3 @@ packet-checked (Echo x) p r room n range bp e = echo-checked x p r range bp (siz
 packet-checked (Piece q) p r room n range bp e =
     let f = piece-fits q (length p) room n e in
     piece-checked q p r range (f .0) (f .1 .few)
-
--- So is the buffer that a call of `build` leaves, with what it held behind the packet.
-pub built-checked : (q : Request) (p o b : List ℕ) (n : ℕ) → InRange q → Bytes p → Answered q p o (Packet n) b → checkAnswer b ≡ checkOf q p
-built-checked q p o b n range bp x =
-    ap checkAnswer (left-by q p o b n x) ∙ packet-checked q p (drop (length (packetOf q p)) o) (length o) n range bp (sym (x .answer))

@@ -1,8 +1,8 @@
--- The call that hands in the last piece that is missing answers complete, and no other does.
+-- Demand 3 over the calls: the call that hands in the last piece that is missing answers complete, and no other does; the payload is then held.
 use mathlib.Core.Logic.{_↔_}
 use mathlib.Core.Path.{_≡_, refl, sym, ap, subst, _∙_}
 use mathlib.Core.List.{List, [], _∷_, _++_, List·Memᴰ·head, Memᴰ·append-right}
-use Prim.Native.Nat.{ℕ, _<_}
+use Prim.Native.Nat.{ℕ, _≤_, _<_}
 use native.Mathlib.Omega.{arith}
 use lib.ListN.{length, length-append}
 use Rattle.pkt.specs.Answers.{Answer, gives}
@@ -14,24 +14,26 @@ use Rattle.assembly.specs.View.{view, recordOf}
 use Rattle.assembly.specs.Answers.{reply, takenSays, recAfter, stateAfter}
 use Rattle.assembly.specs.Assembly.{State, step, complete, Outcome, isComplete, outcome}
 use Rattle.assembly.specs.Cut.{cut}
-use Rattle.assembly.specs.Calls.{capacity, mapBytes, takeAnswer, Takes}
+use Rattle.assembly.specs.Calls.{capacity, mapBytes, takeAnswer, Takes, shown}
 use Rattle.assembly.specs.Packets.{after}
 use Rattle.assembly.proofs.Calls.{takes-moved}
 use Rattle.assembly.proofs.Delivers.{says-complete}
 use Rattle.assembly.proofs.Only.{takes-only}
 use Rattle.demands.specs.Assembling.{keyOf, Asked, by-fragment, by-tail, by-datagram, AllBuilt, Cover, taken, Reassembles}
 use Rattle.demands.specs.Handing.{Handed, by-take}
-use Rattle.demands.specs.Round.{CutBy, of-fragment, of-tail, of-datagram, AllCut}
+use Rattle.demands.specs.Ranges.{Fitting}
+use Rattle.demands.specs.Cutting.{CutBy, of-fragment, of-tail, of-datagram, AllCut, Finished, heldOf, CallsAssemble}
 use Rattle.demands.proofs.Left.{left-by}
 use Rattle.demands.proofs.Handing.{take-one-more, handed-is, complete-told}
+use Rattle.demands.proofs.Assembling.{reassembles}
 
 -- What the calls that cut leave is what they are asked for.
-pub cut-asked : (t : Template) (d l : List ℕ) (off len : ℕ) → CutBy t d l off len → Asked t d l off len
+cut-asked : (t : Template) (d l : List ℕ) (off len : ℕ) → CutBy t d l off len → Asked t d l off len
 cut-asked t d l off len (of-fragment o k n b h x) = by-fragment o k _ h (left-by _ d b l n x)
 cut-asked t d l off len (of-tail o n b h x) = by-tail o _ h (left-by _ d b l n x)
 cut-asked t d l off len (of-datagram n b x) = by-datagram _ (left-by _ d b l n x)
 
-pub all-built : (t : Template) (d : List ℕ) (ls : List (List ℕ)) → AllCut t d ls → AllBuilt t d ls
+all-built : (t : Template) (d : List ℕ) (ls : List (List ℕ)) → AllCut t d ls → AllBuilt t d ls
 all-built t d ls all l m = let (off, len, x) = all l m in (off, len, cut-asked t d l off len x)
 
 module _ (t : Template) (d : List ℕ) (whole-d : Reassembles t d) (before : List (List ℕ)) (last : List ℕ) (all : AllCut t d (before ++ (last ∷ [])))
@@ -73,5 +75,26 @@ module _ (t : Template) (d : List ℕ) (whole-d : Reassembles t d) (before : Lis
       (record { answered = ap (λ (o : Outcome). gives (reply o (recordOf s))) (sym done); payload-is = refl; map-is = refl }) in
       (recordOf s, takes-only capacity mapBytes v last a (Complete (recordOf s)) payload′ (s .payload) map′ (s .map) call so .0)
 
-  pub completes : ((r′ : Rec) × (a ≡ Complete r′)) ↔ Cover t d (before ++ (last ∷ []))
+  completes : ((r′ : Rec) × (a ≡ Complete r′)) ↔ Cover t d (before ++ (last ∷ []))
   completes = (λ (r′, is). covered r′ is, answers)
+
+-- What was put together is the payload.
+holds : (t : Template) (d : List ℕ) → Reassembles t d → (r : Rec) (payload map : List ℕ) → Finished t d r payload map → heldOf r payload map ≡ d
+holds t d whole-d r payload map f =
+    let e = handed-is (keyOf t) _ r payload map (by-take (f .before) (f .last) (f .payload₀) (f .map₀) payload map (f .rec) (Complete r) (f .handed) (f .answered)) in
+    ap (shown capacity mapBytes) e
+    ∙ whole-d .held (f .before ++ (f .last ∷ [])) (all-built t d _ (f .cut))
+    (sym (ap complete e) ∙ complete-told capacity mapBytes _ (f .last) r payload map (f .answered))
+
+-- Demand 3 over the calls, for "one payload of at most 65,515 bytes under one header with the assembly's key".
+pub calls-assemble : (t : Template) (d : List ℕ) → Fitting t → length d ≤ capacity → CallsAssemble t d
+calls-assemble t d fits few =
+    let whole-d = reassembles t d fits few in
+    record {
+      assembles = whole-d;
+      pieces = cut-asked t d;
+      handing = handed-is (keyOf t);
+      completes =
+          λ before last r payload map payload′ map′ a handed call all. completes t d whole-d before last all r payload map handed a payload′ map′ call;
+      assembled = holds t d whole-d;
+    }

@@ -3,6 +3,7 @@ pub mod Pieces
 pub mod Handing
 pub mod Assembling
 pub mod Checked
+pub mod Outputs
 pub mod Numbers
 pub mod Refusals
 pub mod Completing

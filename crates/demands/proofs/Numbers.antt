@@ -1,31 +1,36 @@
 -- The numbers that a call can give: each decision is a chain of tests, and each test names its number.
-use mathlib.Core.Path.{_≡_, refl, sym, subst}
-use mathlib.Core.Bool.{Bool, true, false, not, cond}
+use mathlib.Core.Path.{_≡_, refl, sym, subst, _∙_}
+use mathlib.Core.Bool.{Bool, true, false, not, cond, true≢false}
 use mathlib.Core.List.{List, [], _∷_}
-use Prim.Native.Nat.{ℕ, _+_, _*_}
+use Prim.Native.Nat.{ℕ, zero, suc, _+_, _*_, _<_}
+use native.Mathlib.Omega.{arith}
 use lib.Dec.{ltb, eqb}
 use lib.ListN.{length, take}
-use Rattle.pkt.specs.Answers.{Answer, refused, gives, andThen, mapped}
+use Rattle.pkt.specs.Answers.{Answer, refused, gives, andThen, mapped, unlessLong, fitting}
 use Rattle.ezpkt.specs.Build.{sizeOf, sizedAnswer, answerOf}
-use Rattle.ezpkt.specs.Icmp4 as icmp
+use Rattle.ezpkt.specs.Icmp4.{gone}
 use Rattle.tcp4.specs.Tcp4 as tcp
 use Rattle.ezpkt.specs.declared.build.Request.{Request}
 use Rattle.ezpkt.specs.declared.build.Request.the-variants.{Tcp, Udp, Echo, Piece}
-use Rattle.ezpkt.specs.declared.icmp4.IcmpFlow.{IcmpFlow}
 use Rattle.tcp4.specs.declared.TcpFlow.{TcpFlow}
 use Rattle.inspect.specs.Answers.{good}
-use Rattle.inspect.specs.Header.{fieldAt, headerOf, frameAnswer, verifies, readAnswer, dataOf}
+use Rattle.inspect.specs.Header.{fieldAt, headerOf, frameAnswer, readAnswer, dataOf}
 use Rattle.inspect.specs.Check.{isPiece, isOther, isCut, wholeAnswer, verifiesBehindPseudo, verdictOf, checkAnswer}
 use Rattle.inspect.specs.declared.header.IpRead.{IpRead}
 use Rattle.inspect.specs.declared.check.Kind.{Kind}
 use Rattle.inspect.specs.declared.check.Kind.the-variants as kind
 use Rattle.assembly.specs.Assembly.{State, opened, step}
+use Rattle.assembly.specs.declared.Key.{Key}
 use Rattle.assembly.specs.View.{recordOf}
 use Rattle.assembly.specs.Answers.{replyOf}
 use Rattle.assembly.specs.Carried.{keyOf, sameKey, broken, fitAnswer, judgeAnswer, headAnswer, pieceOf, pieceAnswer}
 use Rattle.assembly.specs.Calls.{sized, usable, openAnswer, takeAnswer}
-use Rattle.packet.specs.Headroom.{mostEnd, valid}
-use Rattle.demands.specs.Numbers.{isIn, Among, number, accepted, Numbered}
+use Rattle.packet.specs.Headroom.{mostEnd, valid, leads}
+use Rattle.packet.specs.Answers.{ifValid, lowerAnswer, copyAnswer}
+use Rattle.packet.specs.declared.Packet.{Packet}
+use Rattle.pcap.specs.Answers.{recordAnswer}
+use Rattle.demands.specs.Numbers.{isIn, Among, number, accepted, buildNumbers, Numbered}
+use Rattle.pkt.specs.Rfc1071.{verifies}
 
 -- a test that refuses by x where it holds, or where it does not, and what follows
 refusing : {A : Type 0} (ns : List ℕ) (t : Bool) (x : ℕ) (rest : Answer A) → isIn x ns ≡ true → Among ns rest → Among ns (cond t (refused x) rest)
@@ -41,20 +46,28 @@ then-in : {A B : Type 0} (ns : List ℕ) (a : Answer A) (f : A → Answer B) →
 then-in ns (refused n) f (number m h) g = number m h
 then-in ns (gives a) f r g = g a
 
-mapped-in : {A B : Type 0} (ns : List ℕ) (f : A → B) (a : Answer A) → Among ns a → Among ns (mapped f a)
+pub mapped-in : {A B : Type 0} (ns : List ℕ) (f : A → B) (a : Answer A) → Among ns a → Among ns (mapped f a)
 mapped-in ns f (refused n) (number m h) = number m h
 mapped-in ns f (gives a) r = accepted (f a)
 
-flow-in : (ns : List ℕ) (f : IcmpFlow) (a : Answer ℕ) → Among ns a → Among ns (icmp.withFlow f a)
-flow-in ns f (refused n) (number m h) = number m h
-flow-in ns f (gives a) r = accepted _
+-- No refusal has the number 0 where 0 is not among the numbers.
+pub above-0 : {A : Type 0} (ns : List ℕ) (a : Answer A) → isIn 0 ns ≡ false → Among ns a → (n : ℕ) → a ≡ refused n → 0 < n
+above-0 ns (gives a) none r n e = let z : _≡_ {A = ℕ} 0 1 = cc in absurd (omega arith)
+above-0 ns (refused zero) none (number m h) n e = let z : _≡_ {A = Bool} true false = sym h ∙ none in absurd (true≢false z)
+above-0 ns (refused (suc m)) none r n e = let z : suc m ≡ n = cc in omega (arith, z)
+
+pub summed-in : (most n c : ℕ) → Among (1 ∷ []) (unlessLong most n c)
+summed-in most n c = refusing _ (ltb most n) 1 _ refl (accepted c)
+
+pub fitting-in : (size room : ℕ) → Among (3 ∷ []) (fitting size room)
+fitting-in size room = refusing _ (ltb room size) 3 _ refl (accepted size)
 
 -- ---- building
 
-sized-in : (most head n room : ℕ) → Among (1 ∷ 2 ∷ 3 ∷ []) (sizedAnswer most head n room)
+sized-in : (most head n room : ℕ) → Among (1 ∷ 3 ∷ []) (sizedAnswer most head n room)
 sized-in most head n room = refusing _ (ltb most n) 1 _ refl (refusing _ (ltb room (head + n)) 3 _ refl (accepted _))
 
-built-in : (q : Request) (n room : ℕ) → Among (1 ∷ 2 ∷ 3 ∷ []) (answerOf q n room)
+pub built-in : (q : Request) (n room : ℕ) → Among (buildNumbers q) (answerOf q n room)
 built-in (Tcp t) n room = sized-in 65495 40 n room
 built-in (Udp t) n room = sized-in 65507 28 n room
 built-in (Echo t) n room = sized-in 65507 28 n room
@@ -62,7 +75,7 @@ built-in (Piece q) n room =
     let size : ℕ = sizeOf (Piece q) n in
     refusing _ (ltb 65515 n) 1 _ refl (refusing _ (ltb 8191 (q .off)) 2 _ refl (refusing _ (ltb room size) 3 _ refl (accepted size)))
 
-sent-in : (f : TcpFlow) (es : List tcp.Emit) (room : ℕ) → Among (1 ∷ 3 ∷ []) (tcp.sendAnswer f es room)
+pub sent-in : (f : TcpFlow) (es : List tcp.Emit) (room : ℕ) → Among (1 ∷ 3 ∷ []) (tcp.sendAnswer f es room)
 sent-in f es room = refusing _ (tcp.anyLong es) 1 _ refl (refusing _ (ltb room (tcp.sizeAll es)) 3 _ refl (accepted _))
 
 -- ---- reading, where 4, 5, 6 and 7 are among the numbers
@@ -77,28 +90,30 @@ module _ (ns : List ℕ) (four : isIn 4 ns ≡ true) (five : isIn 5 ns ≡ true)
       (refusing ns (ltb (headerOf l .end) (headerOf l .start)) 6 _ six (refusing ns (ltb (length l) (headerOf l .end)) 4 _ four (accepted _)))))
       (λ h. unless ns (verifies (take (h .start) l)) 7 _ seven (accepted h))
 
-check-in : (l : List ℕ) → Among (4 ∷ 5 ∷ 6 ∷ 7 ∷ 13 ∷ 12 ∷ 14 ∷ 15 ∷ []) (checkAnswer l)
-unfolding checkAnswer wholeAnswer verdictOf
-check-in l =
-    then-in ns (readAnswer l) _ (read-in ns refl refl refl refl l)
-    (λ h.
-    let d : List ℕ = dataOf h l in
-    then-in ns (wholeAnswer h d) _
-    (refusing ns (isPiece h) 13 _ refl (refusing ns (isOther (h .protocol)) 12 _ refl (refusing ns (isCut (h .protocol) d) 14 _ refl (accepted _))))
-    (λ k. summed k h d))
-  where
-    ns : List ℕ
-    ns = 4 ∷ 5 ∷ 6 ∷ 7 ∷ 13 ∷ 12 ∷ 14 ∷ 15 ∷ []
+-- and where 13, 12 and 14, or 15, are
+module _ (ns : List ℕ) (thirteen : isIn 13 ns ≡ true) (twelve : isIn 12 ns ≡ true) (fourteen : isIn 14 ns ≡ true) where
+  whole-in : (h : IpRead) (d : List ℕ) → Among ns (wholeAnswer h d)
+  unfolding wholeAnswer
+  whole-in h d =
+      refusing ns (isPiece h) 13 _ thirteen (refusing ns (isOther (h .protocol)) 12 _ twelve (refusing ns (isCut (h .protocol) d) 14 _ fourteen (accepted _)))
 
-    summed : (k : Kind) (h : IpRead) (d : List ℕ) → Among ns (verdictOf k h d)
-    summed kind.Tcp h d = unless ns (verifiesBehindPseudo h 6 d) 15 _ refl (accepted good)
-    summed kind.Udp h d = unless ns (verifiesBehindPseudo h 17 d) 15 _ refl (accepted good)
-    summed kind.Bare h d = accepted _
-    summed kind.Icmp h d = unless ns (verifies d) 15 _ refl (accepted good)
+module _ (ns : List ℕ) (fifteen : isIn 15 ns ≡ true) where
+  verdict-in : (k : Kind) (h : IpRead) (d : List ℕ) → Among ns (verdictOf k h d)
+  unfolding verdictOf
+  verdict-in kind.Tcp h d = unless ns (verifiesBehindPseudo h 6 d) 15 _ fifteen (accepted good)
+  verdict-in kind.Udp h d = unless ns (verifiesBehindPseudo h 17 d) 15 _ fifteen (accepted good)
+  verdict-in kind.Bare h d = accepted _
+  verdict-in kind.Icmp h d = unless ns (verifies d) 15 _ fifteen (accepted good)
+
+pub check-in : (l : List ℕ) → Among (4 ∷ 5 ∷ 6 ∷ 7 ∷ 13 ∷ 12 ∷ 14 ∷ 15 ∷ []) (checkAnswer l)
+unfolding checkAnswer
+check-in l =
+    then-in _ (readAnswer l) _ (read-in _ refl refl refl refl l)
+    (λ h. let d : List ℕ = dataOf h l in then-in _ (wholeAnswer h d) _ (whole-in _ refl refl refl h d) (λ k. verdict-in _ refl k h d))
 
 -- ---- assembling
 
-take-in : (C M : ℕ) (s : State) (l : List ℕ) → Among (11 ∷ 4 ∷ 5 ∷ 6 ∷ 7 ∷ 8 ∷ 9 ∷ 10 ∷ []) (takeAnswer C M s l)
+pub take-in : (C M : ℕ) (s : State) (l : List ℕ) → Among (11 ∷ 4 ∷ 5 ∷ 6 ∷ 7 ∷ 8 ∷ 9 ∷ 10 ∷ []) (takeAnswer C M s l)
 unfolding takeAnswer pieceAnswer headAnswer judgeAnswer fitAnswer
 take-in C M s l =
     unless ns (usable C M s) 11 _ refl
@@ -113,6 +128,25 @@ take-in C M s l =
     ns : List ℕ
     ns = 11 ∷ 4 ∷ 5 ∷ 6 ∷ 7 ∷ 8 ∷ 9 ∷ 10 ∷ []
 
+pub open-in : (C M : ℕ) (k : Key) (p m : ℕ) → Among (11 ∷ []) (openAnswer C M k p m)
+unfolding openAnswer
+open-in C M k p m = unless _ (sized C M p m) 11 _ refl (accepted (opened k C M))
+
+-- ---- capturing, and a packet with headroom
+
+pub record-in : (n usec room : ℕ) → Among (1 ∷ 17 ∷ 3 ∷ []) (recordAnswer n usec room)
+record-in n usec room =
+    refusing _ (ltb 65535 n) 1 _ refl (refusing _ (ltb 999999 usec) 17 _ refl (refusing _ (ltb room (16 + n)) 3 _ refl (accepted _)))
+
+pub copy-in : (ok : Bool) (k room : ℕ) → Among (16 ∷ 3 ∷ []) (copyAnswer ok k room)
+copy-in ok k room = unless _ ok 16 _ refl (refusing _ (ltb room k) 3 _ refl (accepted k))
+
+valid-in : {A : Type 0} (ns : List ℕ) (p : Packet) (n : ℕ) (rest : Answer A) → isIn 16 ns ≡ true → Among ns rest → Among ns (ifValid p n rest)
+valid-in ns p n rest h r = unless ns (valid p n) 16 rest h r
+
+lower-in : (p : Packet) (k n : ℕ) → Among (16 ∷ []) (lowerAnswer p k n)
+lower-in p k n = valid-in _ p n _ refl (refusing _ (ltb (p .headroom) k) 16 _ refl (accepted _))
+
 -- ---- all
 
 -- what a contract says of an answer tells its numbers
@@ -121,36 +155,35 @@ told ns a b e h = subst (Among ns) (sym e) h
 
 -- Demand 1: "it builds, or refuses by a number in document 01".
 pub numbered : Numbered
-unfolding openAnswer
 numbered =
     record {
-      summing = λ most n c r e. told _ _ _ e (refusing _ (ltb most n) 1 _ refl (accepted c));
+      summing = λ most n c r e. told _ _ _ e (summed-in most n c);
+      answering = λ q n room r e. told _ _ _ e (built-in q n room);
       building = λ q p o r o′ x. told _ _ _ (x .answer) (built-in q (length p) (length o));
-      echoing = λ q f p o r o′ x. told _ _ _ (x .answer) (flow-in _ f _ (built-in q (length p) (length o)));
+      echoing = λ e f p o r o′ x. told _ _ _ (x .answer) (mapped-in _ (gone f) _ (built-in (Echo e) (length p) (length o)));
       sending = λ f es o r o′ x. told _ _ _ (x .answer) (sent-in f es (length o));
-      opening =
-          λ C M k d m r d′ m′ x.
-          told _ _ _ (x .answer) (mapped-in _ recordOf _ (unless _ (sized C M (length d) (length m)) 11 _ refl (accepted (opened k C M))));
+      opening = λ C M k d m r d′ m′ x. told _ _ _ (x .answer) (mapped-in _ recordOf _ (open-in C M k (length d) (length m)));
       taking = λ C M s l r d m x. told _ _ _ (x .answer) (mapped-in _ replyOf _ (take-in C M s l));
+      reading = λ l r e. told _ _ _ e (read-in _ refl refl refl refl l);
+      finding = λ h d r e. told _ _ _ e (whole-in _ refl refl refl h d);
+      verifying = λ k h d r e. told _ _ _ e (refusing _ (ltb 65515 (length d)) 1 _ refl (verdict-in _ refl k h d));
       checking = λ l r e. told _ _ _ e (check-in l);
-      capturing =
-          λ sec usec d o r o′ x.
-          told _ _ _ (x .answer)
-          (refusing _ (ltb 65535 (length d)) 1 _ refl
-          (refusing _ (ltb 999999 usec) 17 _ refl (refusing _ (ltb (length o) (16 + length d)) 3 _ refl (accepted _))));
-      heading = λ o r o′ x. told _ _ _ (x .answer) (refusing _ (ltb (length o) 24) 3 _ refl (accepted 24));
+      recording = λ n usec room r e. told _ _ _ e (record-in n usec room);
+      capturing = λ sec usec d o r o′ x. told _ _ _ (x .answer) (record-in (length d) usec (length o));
+      heading = λ o r o′ x. told _ _ _ (x .answer) (fitting-in 24 (length o));
       making =
           λ h b r b′ x.
           told _ _ _ (x .answer) (refusing _ (ltb mostEnd h) 16 _ refl (refusing _ (ltb (length b) h) 3 _ refl (accepted _)));
       appending =
           λ p k d b r b′ x.
           told _ _ _ (x .answer)
-          (unless _ (valid p (length b)) 16 _
-          refl (refusing _ (ltb mostEnd (p .end + k)) 16 _ refl (refusing _ (ltb (length b) (p .end + k)) 3 _ refl (accepted _))));
-      prepending =
-          λ p d b r b′ x.
-          told _ _ _ (x .answer) (unless _ (valid p (length b)) 16 _ refl (refusing _ (ltb (p .headroom) (length d)) 16 _ refl (accepted _)));
-      copying =
-          λ ok k d o r o′ x.
-          told _ _ _ (x .answer) (unless _ ok 16 _ refl (refusing _ (ltb (length o) k) 3 _ refl (accepted _)));
+          (valid-in _ p (length b) _ refl
+          (refusing _ (ltb mostEnd (p .end + k)) 16 _ refl (refusing _ (ltb (length b) (p .end + k)) 3 _ refl (accepted _))));
+      copying = λ ok k d o r o′ x. told _ _ _ (x .answer) (copy-in ok k (length o));
+      prepending = λ p d b r b′ x. told _ _ _ (x .answer) (lower-in p (length d) (length b));
+      lowering = λ p k n r e. told _ _ _ e (lower-in p k n);
+      returning = λ p s n r e. told _ _ _ e (valid-in _ p n _ refl (unless _ (leads p s) 16 _ refl (accepted _)));
+      counting = λ p n k r e. told _ _ _ e (valid-in _ p n _ refl (accepted k));
+      testing = λ p n t r e. told _ _ _ e (valid-in _ p n _ refl (accepted t));
+      viewing = λ p n s r e. told _ _ _ e (valid-in _ p n _ refl (accepted s));
     }

@@ -9,8 +9,9 @@ use Rattle.ezpkt.specs.Build.{bit, pieceFlags, pieceIp}
 use Rattle.ezpkt.specs.declared.build.IpPiece.{IpPiece}
 use Rattle.inspect.specs.Header.{hasBit}
 use Rattle.inspect.specs.Check.{ofMany, isPiece}
-use Rattle.inspect.specs.Encoded.{readOf, Fit}
+use Rattle.inspect.specs.Encoded.{readOf}
 use Rattle.demands.specs.Ranges.{Fitting}
+use Rattle.inspect.proofs.Decoding.{Fit}
 
 ones : Bool → ℕ
 ones b = bit b 1

@@ -7,8 +7,7 @@ use lib.ListN.{length}
 use Rattle.pkt.specs.Answers.{Answer, refused, gives, mapped}
 use Rattle.pkt.specs.Written.{leaves}
 use Rattle.ezpkt.specs.Build.{answerOf, packetOf}
-use Rattle.ezpkt.specs.Icmp4.{withFlow}
-use Rattle.ezpkt.specs.declared.icmp4.IcmpFlow.{IcmpFlow}
+use Rattle.ezpkt.specs.Icmp4.{gone}
 use Rattle.packet.proofs.Answers.{kept}
 use Rattle.assembly.specs.Assembly.{State}
 use Rattle.assembly.specs.View.{view, recordOf}
@@ -20,10 +19,6 @@ use Rattle.demands.specs.Refusals.{RefusedKeep}
 mapped-refused : {A B : Type 0} (f : A → B) (a : Answer A) (n : ℕ) → refused n ≡ mapped f a → refused n ≡ a
 mapped-refused f (gives x) n e = let z : _≡_ {A = ℕ} 0 1 = cc in absurd (omega arith)
 mapped-refused f (refused m) n e = cc
-
-flow-refused : (f : IcmpFlow) (a : Answer ℕ) (n : ℕ) → refused n ≡ withFlow f a → refused n ≡ a
-flow-refused f (gives x) n e = let z : _≡_ {A = ℕ} 0 1 = cc in absurd (omega arith)
-flow-refused f (refused m) n e = cc
 
 -- what a refusal leaves of an output, of a payload buffer and of a map
 left : {A : Type 0} (a : Answer A) (n : ℕ) (k o o′ : List ℕ) → refused n ≡ a → o′ ≡ leaves a k o → o′ ≡ o
@@ -43,7 +38,7 @@ refused-keep =
       echoing =
           λ q f p o o′ n x.
           let a = answerOf q (length p) (length o) in
-          left a n (packetOf q p) o o′ (flow-refused f a n (x .answer)) (x .after);
+          left a n (packetOf q p) o o′ (mapped-refused (gone f) a n (x .answer)) (x .after);
       sending = λ f es o o′ n x. left _ n _ o o′ (x .answer) (x .after-it);
       opening =
           λ C M k d m d′ m′ n x.

@@ -1,7 +1,7 @@
 -- Build, cut, assemble, check: the pieces assemble to the payload, and behind a header that names its protocol and addresses it is good.
 use mathlib.Core.Path.{_≡_, refl, sym, ap, subst, _∙_}
 use mathlib.Core.Bool.{Bool, true, false, not, _||_, cond}
-use mathlib.Core.List.{List, [], _∷_, _++_}
+use mathlib.Core.List.{List, _++_}
 use Prim.Native.Nat.{ℕ, _+_, _*_, _≤_, min}
 use native.Mathlib.Omega.{arith}
 use lib.ListN.{length, drop, length-drop}
@@ -20,35 +20,27 @@ use Rattle.ezpkt.specs.declared.build.UdpDatagram.{UdpDatagram}
 use Rattle.ezpkt.specs.declared.build.IcmpEcho.{IcmpEcho}
 use Rattle.ezpkt.specs.declared.build.IpPiece.{IpPiece}
 use Rattle.ezpkt.specs.declared.build.Request.{Request}
-use Rattle.ezpkt.specs.declared.build.Request.the-variants.{Tcp, Udp, Echo, Piece}
 use Rattle.ezpkt.specs.declared.build.Built.the-variants.{Packet}
-use Rattle.ezpkt.proofs.Deciding.{sized-fits, piece-fits}
+use Rattle.ezpkt.proofs.Deciding.{sized-fits, gives-short}
 use Rattle.ezpkt.proofs.Verifying.{behind, built-packet}
 use Rattle.inspect.specs.Answers.{Verdict, good}
 use Rattle.inspect.specs.Check.{isPiece, partAnswer, checkAnswer}
 use Rattle.inspect.specs.declared.header.IpRead.{IpRead}
 use Rattle.inspect.specs.Encoded.{readOf}
 use Rattle.inspect.proofs.Sent.{tcp-good, udp-good, udp-bare, echo-good}
-use Rattle.assembly.specs.declared.Rec.{Rec}
-use Rattle.assembly.specs.declared.Taken.the-variants.{Complete}
-use Rattle.assembly.specs.Answers.{reply}
-use Rattle.assembly.specs.Assembly.{complete}
-use Rattle.assembly.specs.Calls.{capacity, mapBytes, shown}
+use Rattle.assembly.specs.Calls.{capacity}
 use Rattle.demands.specs.Ranges.{Fitting}
 use Rattle.demands.specs.Checked.{udpVerdict}
-use Rattle.demands.specs.Assembling.{keyOf}
-use Rattle.demands.specs.Handing.{by-take}
-use Rattle.demands.specs.Round.{payloadIn, Names, Owed, of-tcp, of-udp, of-echo, Finished, heldOf, RoundTrip}
+use Rattle.demands.specs.Assembling.{ipPiece}
+use Rattle.demands.specs.Round.{payloadIn, Names, Owed, of-tcp, of-udp, of-echo, RoundTrip}
 use Rattle.demands.proofs.Left.{left-by}
-use Rattle.demands.proofs.Handing.{handed-is, complete-told}
-use Rattle.demands.proofs.Assembling.{reassembles}
-use Rattle.demands.proofs.Completing.{cut-asked, all-built, completes}
+use Rattle.demands.proofs.Completing.{calls-assemble}
 use Rattle.demands.proofs.Pieces.{piece-read}
 use Rattle.demands.proofs.Checked.{piece-checked}
 
 -- `datagram`'s request for n bytes
 abbrev asked : Template → ℕ → IpPiece
-asked t n = record { template = t; off = 0; len = n }
+asked t n = ipPiece t 0 n
 
 -- behind the header of a whole datagram under t, as it is read
 module _ (t : Template) (len size : ℕ) where
@@ -90,13 +82,6 @@ module _ (t : Template) (len size : ℕ) where
   part-good q v p room n (of-udp x names) bp e = udp-part x p names bp (sized-fits 65507 28 (length p) room n e .few)
   part-good q v p room n (of-echo x names) bp e = echo-part x p names bp
 
--- No packet that is built is above 65,535 bytes.
-size-most : (q : Request) (n room k : ℕ) → answerOf q n room ≡ gives k → k ≤ 65535
-size-most (Tcp x) n room k e = let f = sized-fits 65495 40 n room k e in omega (arith, f .few, f .is-size)
-size-most (Udp x) n room k e = let f = sized-fits 65507 28 n room k e in omega (arith, f .few, f .is-size)
-size-most (Echo x) n room k e = let f = sized-fits 65507 28 n room k e in omega (arith, f .few, f .is-size)
-size-most (Piece x) n room k e = let f = piece-fits x n room k e .1 in omega (arith, f .few, f .is-size)
-
 -- What `datagram` builds of d is checked as d behind that header.
 datagram-checked : (t : Template) (d o b : List ℕ) (n : ℕ) → Fitting t → length d ≤ 65515 → Answered (datagramOf t (length d)) d o (Packet n) b
     → checkAnswer b ≡ partAnswer (whole t (length d) (20 + length d)) d
@@ -108,35 +93,22 @@ datagram-checked t d o b n fits few x =
     ∙ piece-checked q d _ fits (omega arith) few
     ∙ pick-no _ _ (ap (λ (e : Bool). not e || not (eqb 0 0)) (eq-eqb _ _ all))
 
--- Demand 3: "It is complete exactly when at least one was handed in and together they cover the payload, and it then holds that payload",
--- over the calls that build, cut, assemble and check: what is put together again is the IPv4 payload of the packet that was built, and the
--- datagram that is built of it is good.
+-- Demand 3 over the calls that build, cut, assemble and check: what is put together again is the IPv4 payload of the packet that was built,
+-- and the datagram that is built of it is good.
 pub round-trip : (t : Template) (q : Request) (v : Verdict) (p o b : List ℕ) (n : ℕ) → Fitting t → Owed t q v → Bytes p → Answered q p o (Packet n) b
     → RoundTrip t v (payloadIn n b)
 round-trip t q v p o b n fits c bp x =
     let d : List ℕ = payloadIn n b in
     let front = built-packet q p o b (Packet n) n x refl in
     let is : d ≡ drop 20 (packetOf q p) = ap (drop 20) (front .1) in
-    let size = size-most q (length p) (length o) n (sym (x .answer)) in
+    let size = gives-short q (length p) (length o) n (sym (x .answer)) in
     let few : length d ≤ capacity = omega (arith, ap length is, length-drop 20 (packetOf q p), front .0) in
-    let held : (r : Rec) (payload map : List ℕ) → Finished t d r payload map → heldOf r payload map ≡ d =
-    λ r payload map f.
-    let e = handed-is (keyOf t) _ r payload map (by-take (f .before) (f .last) (f .payload₀) (f .map₀) payload map (f .rec) (Complete r) (f .handed) (f .answered)) in
-    ap (shown capacity mapBytes) e
-    ∙ reassembles t d fits few .held (f .before ++ (f .last ∷ [])) (all-built t d _ (f .cut))
-    (sym (ap complete e) ∙ complete-told capacity mapBytes _ (f .last) r payload map (f .answered))
-    in
+    let calls = calls-assemble t d fits few in
     record {
-      assembles = reassembles t d fits few;
-      pieces = cut-asked t d;
-      handing = handed-is (keyOf t);
-      completes =
-          λ before last r payload map payload′ map′ a handed call all.
-          completes t d (reassembles t d fits few) before last all r payload map handed a payload′ map′ call;
-      assembled = held;
+      calls = calls;
       checked =
           λ r payload map f o₂ b₂ n₂ y.
-          datagram-checked t d o₂ b₂ n₂ fits few (subst (λ (s : List ℕ). Answered (datagramOf t (length s)) s o₂ (Packet n₂) b₂) (held r payload map f) y)
+          datagram-checked t d o₂ b₂ n₂ fits few (subst (λ (s : List ℕ). Answered (datagramOf t (length s)) s o₂ (Packet n₂) b₂) (calls .assembled r payload map f) y)
           ∙ ap (partAnswer (whole t (length d) (20 + length d))) is
           ∙ part-good t (length d) (20 + length d) q v p (length o) n c bp (sym (x .answer));
     }

@@ -3,22 +3,29 @@ use mathlib.Core.Path.{_≡_}
 use mathlib.Core.Logic.{_↔_}
 use mathlib.Core.Bool.{true, false}
 use mathlib.Core.List.{List, _++_, List·Memᴰ}
-use Prim.Native.Nat.{ℕ, _+_, _*_, _≤_, _<_, min}
+use Prim.Native.Nat.{ℕ, _+_, _*_, _≤_, _<_}
 use lib.ListN.{length}
 use Rattle.pkt.specs.Answers.{gives}
-use Rattle.ezpkt.specs.Build.{packetOf}
+use Rattle.ezpkt.specs.Build.{startOf, endOf, pieceIp, packetOf}
 use Rattle.ezpkt.specs.Ip4.{fragmentOf, tailOf, datagramOf}
 use Rattle.ezpkt.specs.declared.ip4.Template.{Template}
+use Rattle.ezpkt.specs.declared.build.IpPiece.{IpPiece}
+use Rattle.inspect.specs.Encoded.{readOf}
 use Rattle.assembly.specs.declared.Key.{Key}
 use Rattle.assembly.specs.Assembly.{State, opened, step, complete}
 use Rattle.assembly.specs.Cut.{cut}
 use Rattle.assembly.specs.Carried.{pieceAnswer}
+use Rattle.assembly.specs.Carried as carried
 use Rattle.assembly.specs.Calls.{capacity, mapBytes, takeAnswer, shown}
 use Rattle.assembly.specs.Packets.{takeAll}
 
--- "one header with the assembly's key"
-abbrev pub keyOf : Template → Key
-keyOf t = record { saddr = t .saddr; daddr = t .daddr; id = t .id }
+-- a request (off, len) under t
+abbrev pub ipPiece : Template → ℕ → ℕ → IpPiece
+ipPiece t off len = record { template = t; off = off; len = len }
+
+-- "one header with the assembly's key": the key that is read from t's header, whichever piece it heads
+unfoldable pub keyOf : Template → Key
+keyOf t = carried.keyOf (readOf (pieceIp (ipPiece t 0 0) 20 false))
 
 -- l is what one of the three calls, asked for (off, len), builds from the payload d under t, "none asked for past its end"; any bytes may
 -- stand behind it. "`tail` takes len = n; `datagram` carries all with offset 0".
@@ -36,6 +43,7 @@ pub record PastEnd (t : Template) (d l : List ℕ) : Type 0 where
   pub len : ℕ
   pub rest : List ℕ
   pub past : length d < 8 * off
+  -- (where it would end above 65,515 it is refused by 10 and spoils nothing)
   pub room : 8 * off ≤ capacity
   pub built : l ≡ packetOf (fragmentOf t off len) d ++ rest
 
@@ -43,16 +51,15 @@ pub record PastEnd (t : Template) (d l : List ℕ) : Type 0 where
 abbrev pub AllBuilt : Template → List ℕ → List (List ℕ) → Type 0
 AllBuilt t d ls = (l : List ℕ) → List·Memᴰ l ls → BuiltFrom t d l
 
--- One of the packets ls was asked for bytes of d among which is the one at place j: "a request (off, len) in blocks carries bytes
--- min(8·off, n) up to, not including, min(8·off + 8·len, n)".
+-- One of the packets ls was asked for bytes of d among which is the one at place j.
 pub record Reached (t : Template) (d : List ℕ) (ls : List (List ℕ)) (j : ℕ) : Type 0 where
   pub packet : List ℕ
   pub off : ℕ
   pub len : ℕ
   pub handed : List·Memᴰ packet ls
   pub asked : Asked t d packet off len
-  pub from : min (8 * off) (length d) ≤ j
-  pub till : j < min (8 * off + 8 * len) (length d)
+  pub from : startOf (ipPiece t off len) (length d) ≤ j
+  pub till : j < endOf (ipPiece t off len) (length d)
 
 -- "together they cover the payload": by what was asked for
 unfoldable pub Cover : Template → List ℕ → List (List ℕ) → Type 0

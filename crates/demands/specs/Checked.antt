@@ -1,12 +1,10 @@
 -- What the check owes a packet that is built.
-use mathlib.Core.Bool.{Bool, false, not, cond}
+use mathlib.Core.Bool.{Bool, false, cond}
 use mathlib.Core.List.{List}
 use Prim.Native.Nat.{ℕ, _+_, _%_}
 use lib.ListN.{length}
-use lib.Dec.{eqb}
 use Rattle.pkt.specs.Answers.{Answer, refused, gives}
-use Rattle.ezpkt.specs.Build.{endOf, pieceIp}
-use Rattle.ezpkt.specs.declared.build.IpPiece.{IpPiece}
+use Rattle.ezpkt.specs.Build.{more, pieceIp}
 use Rattle.ezpkt.specs.declared.build.Request.{Request}
 use Rattle.ezpkt.specs.declared.build.Request.the-variants.{Tcp, Udp, Echo, Piece}
 use Rattle.inspect.specs.Answers.{Verdict, good, noChecksum}
@@ -17,10 +15,6 @@ use Rattle.inspect.specs.Encoded.{readOf}
 -- MF set or offset not 0, in the whole 16-bit field
 abbrev pub pieceField : ℕ → Bool
 pieceField x = ofMany (hasBit 0x2000 x) (x % 0x2000)
-
--- "MF is set exactly if that end is not n"
-abbrev pub more : IpPiece → ℕ → Bool
-more q n = not (eqb (endOf q n) n)
 
 -- what a UDP datagram deserves: "good without checksum (UDP field 0)"
 abbrev pub udpVerdict : Bool → Verdict

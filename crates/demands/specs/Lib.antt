@@ -1,7 +1,9 @@
 pub mod Ranges
 pub mod Handing
 pub mod Assembling
+pub mod Cutting
 pub mod Checked
+pub mod Outputs
 pub mod Numbers
 pub mod Refusals
 pub mod Round

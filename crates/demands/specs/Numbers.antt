@@ -7,17 +7,24 @@ use lib.Dec.{eqb}
 use Rattle.pkt.specs.Answers.{Answer, refused, gives, unlessLong, sumSays}
 use Rattle.pkt.specs.declared.ipv4.Sum.{Sum}
 use Rattle.ezpkt.specs.Answers.{builtSays}
-use Rattle.ezpkt.specs.Build.{Answered}
+use Rattle.ezpkt.specs.Build.{answerOf, Answered}
 use Rattle.ezpkt.specs.Icmp4 as icmp
 use Rattle.tcp4.specs.Tcp4 as tcp
 use Rattle.ezpkt.specs.declared.build.Request.{Request}
+use Rattle.ezpkt.specs.declared.build.Request.the-variants.{Tcp, Udp, Echo, Piece}
+use Rattle.ezpkt.specs.declared.build.IcmpEcho.{IcmpEcho}
 use Rattle.ezpkt.specs.declared.build.Built.{Built}
 use Rattle.ezpkt.specs.declared.icmp4.IcmpFlow.{IcmpFlow}
 use Rattle.ezpkt.specs.declared.icmp4.Sent as echo
 use Rattle.tcp4.specs.declared.TcpFlow.{TcpFlow}
 use Rattle.tcp4.specs.declared.Sent.{Sent}
-use Rattle.inspect.specs.Answers.{checkedSays}
-use Rattle.inspect.specs.Check.{checkAnswer}
+use Rattle.inspect.specs.Answers.{readSays, foundSays, checkedSays}
+use Rattle.inspect.specs.Header.{readAnswer}
+use Rattle.inspect.specs.Check.{wholeAnswer, sumsAnswer, checkAnswer}
+use Rattle.inspect.specs.declared.header.IpRead.{IpRead}
+use Rattle.inspect.specs.declared.header.Seen.{Seen}
+use Rattle.inspect.specs.declared.check.Kind.{Kind}
+use Rattle.inspect.specs.declared.check.Found.{Found}
 use Rattle.inspect.specs.declared.check.Checked.{Checked}
 use Rattle.assembly.specs.declared.Key.{Key}
 use Rattle.assembly.specs.declared.Opened.{Opened}
@@ -27,10 +34,13 @@ use Rattle.assembly.specs.Answers.{openedSays, takenSays}
 use Rattle.assembly.specs.Calls.{Opens, Takes}
 use Rattle.packet.specs.Answers as packet
 use Rattle.packet.specs.declared.Packet.{Packet}
+use Rattle.packet.specs.declared.PktSlice.{PktSlice}
 use Rattle.packet.specs.declared.Number.{Number}
+use Rattle.packet.specs.declared.Truth.{Truth}
+use Rattle.packet.specs.declared.Part.{Part}
 use Rattle.packet.specs.declared.Made.{Made}
 use Rattle.packet.specs.declared.Pushed.{Pushed}
-use Rattle.pcap.specs.Answers.{capturedSays, HeaderWritten, RecordWritten}
+use Rattle.pcap.specs.Answers.{capturedSays, recordAnswer, HeaderWritten, RecordWritten}
 use Rattle.pcap.specs.declared.Captured.{Captured}
 
 abbrev pub isIn : ℕ → List ℕ → Bool
@@ -42,26 +52,59 @@ pub data Among {A : Type 0} (ns : List ℕ) : Answer A → Type 0 where
   number : (n : ℕ) → isIn n ns ≡ true → Among ns (refused n)
   accepted : (a : A) → Among ns (gives a)
 
+-- "building 1, 2, 3", of which 2 is "piece offset above 8,191"
+abbrev pub buildNumbers : Request → List ℕ
+buildNumbers (Tcp t) = 1 ∷ 3 ∷ []
+buildNumbers (Udp u) = 1 ∷ 3 ∷ []
+buildNumbers (Echo e) = 1 ∷ 3 ∷ []
+buildNumbers (Piece q) = 1 ∷ 2 ∷ 3 ∷ []
+
+-- Every public call of the library crates that can refuse.
 pub record Numbered : Type 0 where
-  -- "The checksum gives only 1."
+  -- "The checksum gives only 1.": `ip_csum`, `transport_csum`, `tcp_csum`, `udp_csum`, `icmp_csum`
   pub summing : (most n c : ℕ) (r : Sum) → sumSays r ≡ unlessLong most n c → Among (1 ∷ []) (sumSays r)
-  -- "building 1, 2, 3"
-  pub building : (q : Request) (p o : List ℕ) (r : Built) (o′ : List ℕ) → Answered q p o r o′ → Among (1 ∷ 2 ∷ 3 ∷ []) (builtSays r)
-  pub echoing : (q : Request) (f : IcmpFlow) (p o : List ℕ) (r : echo.Sent) (o′ : List ℕ) → icmp.Echoed q f p o r o′
-      → Among (1 ∷ 2 ∷ 3 ∷ []) (icmp.sentSays r)
+  -- `answer`
+  pub answering : (q : Request) (n room : ℕ) (r : Built) → builtSays r ≡ answerOf q n room → Among (buildNumbers q) (builtSays r)
+  -- `build`, `fragment`, `tail`, `datagram`, `client_dgram`, `server_dgram`
+  pub building : (q : Request) (p o : List ℕ) (r : Built) (o′ : List ℕ) → Answered q p o r o′ → Among (buildNumbers q) (builtSays r)
+  -- `echo`, `echo_reply`
+  pub echoing : (e : IcmpEcho) (f : IcmpFlow) (p o : List ℕ) (r : echo.Sent) (o′ : List ℕ) → icmp.Echoed (Echo e) f p o r o′
+      → Among (1 ∷ 3 ∷ []) (icmp.sentSays r)
+  -- the calls of `TcpFlow` that send
   pub sending : (f : TcpFlow) (es : List tcp.Emit) (o : List ℕ) (r : Sent) (o′ : List ℕ) → tcp.Sends f es o r o′ → Among (1 ∷ 3 ∷ []) (tcp.sentSays r)
   -- "opening gives only 11"
   pub opening : (C M : ℕ) (k : Key) (d m : List ℕ) (r : Opened) (d′ m′ : List ℕ) → Opens C M k d m r d′ m′ → Among (11 ∷ []) (openedSays r)
   -- "Assembly 11, 4 (under 20), 5, 6, 4 (total), 7, 8, 9, 10"
   pub taking : (C M : ℕ) (s : State) (l : List ℕ) (r : Taken) (d m : List ℕ) → Takes C M s l r d m
       → Among (11 ∷ 4 ∷ 5 ∷ 6 ∷ 7 ∷ 8 ∷ 9 ∷ 10 ∷ []) (takenSays r)
-  -- "Packet check 4, 5, 6, 4, 7, 13, 12, 14, 15"
+  -- "Packet check 4, 5, 6, 4, 7, 13, 12, 14, 15", and its parts: `read`,
+  pub reading : (l : List ℕ) (r : Seen) → readSays r ≡ readAnswer l → Among (4 ∷ 5 ∷ 6 ∷ 7 ∷ []) (readSays r)
+  -- `whole`,
+  pub finding : (h : IpRead) (d : List ℕ) (r : Found) → foundSays r ≡ wholeAnswer h d → Among (13 ∷ 12 ∷ 14 ∷ []) (foundSays r)
+  -- `sums`, which is also asked of parts that are too long,
+  pub verifying : (k : Kind) (h : IpRead) (d : List ℕ) (r : Checked) → checkedSays r ≡ sumsAnswer k h d → Among (1 ∷ 15 ∷ []) (checkedSays r)
+  -- and `check`.
   pub checking : (l : List ℕ) (r : Checked) → checkedSays r ≡ checkAnswer l → Among (4 ∷ 5 ∷ 6 ∷ 7 ∷ 13 ∷ 12 ∷ 14 ∷ 15 ∷ []) (checkedSays r)
-  -- "Capture 1, 17, 3"
+  -- "Capture 1, 17, 3": `record_answer`, `write_record`
+  pub recording : (n usec room : ℕ) (r : Captured) → capturedSays r ≡ recordAnswer n usec room → Among (1 ∷ 17 ∷ 3 ∷ []) (capturedSays r)
   pub capturing : (sec usec : ℕ) (d o : List ℕ) (r : Captured) (o′ : List ℕ) → RecordWritten sec usec d o r o′ → Among (1 ∷ 17 ∷ 3 ∷ []) (capturedSays r)
+  -- `write_header`
   pub heading : (o : List ℕ) (r : Captured) (o′ : List ℕ) → HeaderWritten o r o′ → Among (3 ∷ []) (capturedSays r)
-  -- "Headroom and dump 16, then 3", of the calls that write
-  pub making : (h : ℕ) (b : List ℕ) (r : Made) (b′ : List ℕ) → packet.Opened h b r b′ → Among (16 ∷ 3 ∷ []) (packet.madeSays r)
+  -- "Headroom and dump 16, then 3", of the calls that write where there may be no room: `Packet::new`,
+  pub making : (h : ℕ) (b : List ℕ) (r : Made) (b′ : List ℕ) → packet.MadeNew h b r b′ → Among (16 ∷ 3 ∷ []) (packet.madeSays r)
+  -- `push_slice`, `push_bytes`, `push_hdr`, `push`,
   pub appending : (p : Packet) (k : ℕ) (d b : List ℕ) (r : Pushed) (b′ : List ℕ) → packet.Appended p k d b r b′ → Among (16 ∷ 3 ∷ []) (packet.pushedSays r)
-  pub prepending : (p : Packet) (d b : List ℕ) (r : Pushed) (b′ : List ℕ) → packet.Prepended p d b r b′ → Among (16 ∷ []) (packet.pushedSays r)
+  -- `to_vec`, `to_vec_from`, `hex_dump`;
   pub copying : (ok : Bool) (k : ℕ) (d o : List ℕ) (r : Number) (o′ : List ℕ) → packet.CopiedOut ok k d o r o′ → Among (16 ∷ 3 ∷ []) (packet.numberSays r)
+  -- and 16 alone of the others: `lower_headroom_for`,
+  pub prepending : (p : Packet) (d b : List ℕ) (r : Pushed) (b′ : List ℕ) → packet.Prepended p d b r b′ → Among (16 ∷ []) (packet.pushedSays r)
+  -- `lower_headroom`,
+  pub lowering : (p : Packet) (k n : ℕ) (r : Pushed) → packet.pushedSays r ≡ packet.lowerAnswer p k n → Among (16 ∷ []) (packet.pushedSays r)
+  -- `return_headroom`,
+  pub returning : (p : Packet) (s : PktSlice) (n : ℕ) (r : Made) → packet.madeSays r ≡ packet.returnAnswer p s n → Among (16 ∷ []) (packet.madeSays r)
+  -- `headroom`, `len`, `bit_time`, `hex_dump_len`,
+  pub counting : (p : Packet) (n k : ℕ) (r : Number) → packet.numberSays r ≡ packet.ifValid p n (gives k) → Among (16 ∷ []) (packet.numberSays r)
+  -- `is_empty`,
+  pub testing : (p : Packet) (n : ℕ) (t : Bool) (r : Truth) → packet.truthSays r ≡ packet.ifValid p n (gives t) → Among (16 ∷ []) (packet.truthSays r)
+  -- `as_slice`.
+  pub viewing : (p : Packet) (n : ℕ) (s : PktSlice) (r : Part) → packet.partSays r ≡ packet.ifValid p n (gives s) → Among (16 ∷ []) (packet.partSays r)

@@ -19,7 +19,7 @@ use Rattle.assembly.specs.declared.Opened.the-variants as opened
 use Rattle.assembly.specs.declared.Taken.the-variants as taken
 use Rattle.assembly.specs.View.{view}
 use Rattle.assembly.specs.Calls.{Opens, Takes}
-use Rattle.packet.specs.Answers.{Opened, Appended, Prepended, CopiedOut}
+use Rattle.packet.specs.Answers.{MadeNew, Appended, Prepended, CopiedOut}
 use Rattle.packet.specs.declared.Packet.{Packet}
 use Rattle.packet.specs.declared.Made.the-variants as made
 use Rattle.packet.specs.declared.Pushed.the-variants as pushed
@@ -27,7 +27,7 @@ use Rattle.packet.specs.declared.Number.the-variants as number
 use Rattle.pcap.specs.Answers.{Wrote}
 use Rattle.pcap.specs.declared.Captured.the-variants as captured
 
--- Every call of the library crates that is lent bytes to write, by the contract that it has. A number n is refused. A refusal hands no flow
+-- Every call of the library crates that is lent bytes to write, by the contract that it has. n is the refusal's number. A refusal hands no flow
 -- and no assembly's record back, because it holds its number only: its type alone says that the caller goes on with what it has.
 pub record RefusedKeep : Type 0 where
   -- `build`, `fragment`, `tail`, `datagram`, `client_dgram`, `server_dgram`: the output
@@ -41,7 +41,7 @@ pub record RefusedKeep : Type 0 where
   -- `take`: both buffers
   pub taking : (C M : ℕ) (r : Rec) (d m l d′ m′ : List ℕ) (n : ℕ) → Takes C M (view r d m) l (taken.Refused n) d′ m′ → (d′ ≡ d) × (m′ ≡ m)
   -- `Packet::new`: the buffer
-  pub making : (h : ℕ) (b b′ : List ℕ) (n : ℕ) → Opened h b (made.Refused n) b′ → b′ ≡ b
+  pub making : (h : ℕ) (b b′ : List ℕ) (n : ℕ) → MadeNew h b (made.Refused n) b′ → b′ ≡ b
   -- `push_slice`, `push_bytes`, `push_hdr`, `push`: the buffer
   pub appending : (p : Packet) (k : ℕ) (d b b′ : List ℕ) (n : ℕ) → Appended p k d b (pushed.Refused n) b′ → b′ ≡ b
   -- `lower_headroom_for`: the buffer

@@ -1,11 +1,12 @@
 -- How long the packets are.
 use mathlib.Core.Path.{_≡_}
-use Prim.Native.Nat.{ℕ, _+_, _-_, _≤_}
+use Prim.Native.Nat.{ℕ, _+_}
 use native.Mathlib.Omega.{arith}
 use mathlib.Core.List.{List}
-use lib.ListN.{length, length-append, length-take, length-drop}
+use lib.ListN.{length, length-append}
+use lib.Seq.{length-slice}
 use Rattle.pkt.proofs.Headers.{ip-length, tcp-length, udp-length, echo-length}
-use Rattle.ezpkt.specs.Build.{tcpPacket, udpPacket, echoPacket, piecePacket, between, startOf, endOf, packetOf, sizeOf}
+use Rattle.ezpkt.specs.Build.{tcpPacket, udpPacket, echoPacket, piecePacket, startOf, endOf, packetOf, sizeOf}
 use Rattle.ezpkt.specs.declared.build.TcpSegment.{TcpSegment}
 use Rattle.ezpkt.specs.declared.build.UdpDatagram.{UdpDatagram}
 use Rattle.ezpkt.specs.declared.build.IcmpEcho.{IcmpEcho}
@@ -25,14 +26,10 @@ echo-size : (e : IcmpEcho) (p : List ℕ) → length (echoPacket e p) ≡ 28 + l
 unfolding echoPacket
 echo-size e p = simp (length-append, ip-length, echo-length) (omega arith)
 
-pub between-length : (s e : ℕ) (p : List ℕ) → e ≤ length p → length (between s e p) ≡ e - s
-between-length s e p h = simp (length-take, length-drop) (omega arith)
-
 piece-size : (q : IpPiece) (p : List ℕ) → length (piecePacket q p) ≡ sizeOf (Piece q) (length p)
 unfolding piecePacket
 piece-size q p =
-    let e : length (between (startOf q (length p)) (endOf q (length p)) p) ≡ endOf q (length p) - startOf q (length p) =
-    between-length (startOf q (length p)) (endOf q (length p)) p (omega arith) in
+    let e = length-slice (startOf q (length p)) (endOf q (length p)) p (omega arith) in
     simp (length-append, ip-length, e)
 
 -- A packet is as long as its size says.

@@ -8,14 +8,14 @@ use mathlib.Core.List.{List, _++_}
 use lib.ListN.{length, take, drop}
 use lib.Seq.{take-at, drop-at}
 use Rattle.pkt.specs.Answers.{Answer, gives}
-use Rattle.pkt.specs.Fields.{value, Field, field, widths, Bytes}
+use Rattle.pkt.specs.Fields.{value, Field, field, Bytes}
 use Rattle.pkt.specs.Rfc1071.{Verifies, checksum}
 use Rattle.pkt.specs.Rfc791.{ipFields, ipBytes, ipHeader}
 use Rattle.pkt.specs.Rfc768.{pseudo, udpHeader}
 use Rattle.pkt.specs.Rfc792.{icmpNew, echoNew}
 use Rattle.pkt.specs.Written.{written, leaves}
 use Rattle.pkt.specs.declared.ipv4.«ip_hdr».{«ip_hdr»}
-use Rattle.pkt.proofs.Fields.{field-at}
+use Rattle.pkt.proofs.Fields.{field-at, widths}
 use Rattle.pkt.proofs.Headers.{ip-length, ip-verifies, tcp-verifies, udp-verifies, echo-verifies}
 use Rattle.ezpkt.specs.Answers.{builtSays}
 use Rattle.ezpkt.specs.Build.{flowIp, tcpHdr, udpHdr, echoType, tcpPacket, udpPacket, echoPacket, piecePacket, packetOf, sizeOf, answerOf, Answered}

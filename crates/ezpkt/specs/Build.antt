@@ -4,9 +4,10 @@ use Prim.Native.Nat.{ℕ, _+_, _-_, _*_, min}
 use mathlib.Core.Path.{_≡_}
 use mathlib.Core.Bool.{Bool, not, cond}
 use mathlib.Core.List.{List, _++_}
-use lib.ListN.{length, take, drop}
+use lib.ListN.{length}
+use lib.Seq.{slice}
 use lib.Dec.{ltb, eqb}
-use Rattle.pkt.specs.Answers.{Answer, refused, gives}
+use Rattle.pkt.specs.Answers.{Answer, refused, fitting}
 use Rattle.pkt.specs.Rfc791.{ipHeader, ipDefault}
 use Rattle.pkt.specs.Rfc768.{udpHeader, udpChecksum}
 use Rattle.pkt.specs.Rfc9293.{tcpHeader, tcpChecksum}
@@ -87,17 +88,21 @@ endOf q n = min (8 * q .off + 8 * q .len) n
 abbrev pub bit : Bool → ℕ → ℕ
 bit b n = cond b n 0
 
+-- "MF is set exactly if that end is not n"
+abbrev pub more : IpPiece → ℕ → Bool
+more q n = not (eqb (endOf q n) n)
+
 -- the template's reserved and DF bits, MF, and the offset
 abbrev pub pieceFlags : IpPiece → Bool → ℕ
-pieceFlags q more = bit (q .template .evil) 0x8000 + bit (q .template .df) 0x4000 + bit more 0x2000 + q .off
+pieceFlags q mf = bit (q .template .evil) 0x8000 + bit (q .template .df) 0x4000 + bit mf 0x2000 + q .off
 
 abbrev pub pieceIp : IpPiece → ℕ → Bool → «ip_hdr»
-pieceIp q size more =
+pieceIp q size mf =
     record {
       tos = q .template .tos;
       «tot_len» = size;
       id = q .template .id;
-      «frag_off» = pieceFlags q more;
+      «frag_off» = pieceFlags q mf;
       ttl = q .template .ttl;
       protocol = q .template .protocol;
       saddr = q .template .saddr;
@@ -108,15 +113,10 @@ pieceIp q size more =
 abbrev pub pieceSize : IpPiece → ℕ → ℕ
 pieceSize q n = 20 + (endOf q n - startOf q n)
 
--- the bytes from start up to, not including, end
-abbrev pub between : ℕ → ℕ → List ℕ → List ℕ
-between start end p = take (end - start) (drop start p)
-
--- "MF is set exactly if that end is not n"
 unfoldable pub piecePacket : IpPiece → List ℕ → List ℕ
 piecePacket q p =
-    ipHeader (pieceIp q (pieceSize q (length p)) (not (eqb (endOf q (length p)) (length p))))
-    ++ between (startOf q (length p)) (endOf q (length p)) p
+    ipHeader (pieceIp q (pieceSize q (length p)) (more q (length p)))
+    ++ slice (startOf q (length p)) (endOf q (length p)) p
 
 -- ---- all four
 
@@ -136,13 +136,12 @@ sizeOf (Piece q) n = pieceSize q n
 
 -- Refusals 1 and 3: n bytes behind head bytes, at most `most` of them, and room for so many.
 abbrev pub sizedAnswer : ℕ → ℕ → ℕ → ℕ → Answer ℕ
-sizedAnswer most head n room = cond (ltb most n) (refused 1) (cond (ltb room (head + n)) (refused 3) (gives (head + n)))
+sizedAnswer most head n room = cond (ltb most n) (refused 1) (fitting (head + n) room)
 
 -- Refusals 1, 2 and 3.
 abbrev pub pieceAnswer : IpPiece → ℕ → ℕ → Answer ℕ
 pieceAnswer q n room =
-    cond (ltb 65515 n) (refused 1)
-    (cond (ltb 8191 (q .off)) (refused 2) (cond (ltb room (pieceSize q n)) (refused 3) (gives (pieceSize q n))))
+    cond (ltb 65515 n) (refused 1) (cond (ltb 8191 (q .off)) (refused 2) (fitting (pieceSize q n) room))
 
 -- the answer, for a payload of n bytes and room for so many
 abbrev pub answerOf : Request → ℕ → ℕ → Answer ℕ

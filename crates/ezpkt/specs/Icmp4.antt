@@ -4,7 +4,7 @@ use mathlib.Core.Path.{_≡_}
 use mathlib.Core.Bool.{true, false}
 use mathlib.Core.List.{List}
 use lib.ListN.{length}
-use Rattle.pkt.specs.Answers.{Answer, refused, gives}
+use Rattle.pkt.specs.Answers.{Answer, refused, gives, mapped}
 use Rattle.pkt.specs.Written.{leaves}
 use Rattle.ezpkt.specs.Build.{answerOf, packetOf}
 use Rattle.ezpkt.specs.declared.build.Request.{Request}
@@ -35,14 +35,16 @@ pub record Gone : Type 0 where
   pub flow : IcmpFlow
   pub size : ℕ
 
+abbrev pub gone : IcmpFlow → ℕ → Gone
+gone f n = record { flow = f; size = n }
+
 abbrev pub sentSays : Sent → Answer Gone
-sentSays (Packet f n) = gives (record { flow = f; size = n })
+sentSays (Packet f n) = gives (gone f n)
 sentSays (Refused n) = refused n
 
 -- an answer of building, with the flow that goes with a packet
 abbrev pub withFlow : IcmpFlow → Answer ℕ → Answer Gone
-withFlow f (gives n) = gives (record { flow = f; size = n })
-withFlow f (refused n) = refused n
+withFlow f a = mapped (gone f) a
 
 -- A call's whole promise: a request, the flow after it, the payload and the buffer before; the answer and the buffer after.
 pub record Echoed (q : Request) (f : IcmpFlow) (p o : List ℕ) (r : Sent) (o′ : List ℕ) : Type 0 where

@@ -8,7 +8,7 @@ use lib.ListN.{length, take}
 use lib.Dec.{ltb, eqb}
 use borrow.Author.Tests.{ltb-false, le-ltb}
 use Rattle.pkt.specs.Answers.{Answer, refused, gives, andThen}
-use Rattle.inspect.specs.Header.{fieldAt, totalOf, readAnswer, dataOf}
+use Rattle.inspect.specs.Header.{fieldAt, lengthField, readAnswer, dataOf}
 use Rattle.inspect.specs.Check.{isCut, sumsAnswer, verdictOf, partAnswer, checkAnswer}
 use Rattle.inspect.specs.declared.header.IpRead.{IpRead}
 use Rattle.inspect.specs.declared.check.Kind.{Kind}
@@ -32,15 +32,15 @@ pub sums-short : (k : Kind) (h : IpRead) (d : List ℕ) → length d ≤ 65515 �
 sums-short k h d s = ap (λ (t : Bool). cond t (refused 1) (verdictOf k h d)) (le-ltb 65515 (length d) s)
 
 -- The check's answer is that of the first bytes, as many as the total length says, whatever is behind them.
-pub check-front : (l r : List ℕ) → 20 ≤ totalOf l → totalOf l ≤ length l → checkAnswer (take (totalOf l) l ++ r) ≡ checkAnswer l
+pub check-front : (l r : List ℕ) → 20 ≤ lengthField l → lengthField l ≤ length l → checkAnswer (take (lengthField l) l ++ r) ≡ checkAnswer l
 unfolding checkAnswer
 check-front l r long there = ap (λ (a : Answer IpRead). andThen a (λ h. partAnswer h (dataOf h m))) (read-front l r long there) ∙ go (readAnswer l) refl
   where
     m : List ℕ
-    m = take (totalOf l) l ++ r
+    m = take (lengthField l) l ++ r
 
     go : (a : Answer IpRead) → readAnswer l ≡ a → andThen a (λ h. partAnswer h (dataOf h m)) ≡ andThen a (λ h. partAnswer h (dataOf h l))
     go (refused n) e = refl
     go (gives h) e =
         let f = read-framed l h e in
-        ap (partAnswer h) (part-front (h .start) (h .end - h .start) (totalOf l) l r (omega (arith, read-total l h e)) there)
+        ap (partAnswer h) (part-front (h .start) (h .end - h .start) (lengthField l) l r (omega (arith, read-total l h e)) there)

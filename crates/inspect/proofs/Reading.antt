@@ -8,11 +8,12 @@ use lib.ListN.{length, take, length-append, length-take}
 use lib.Dec.{ltb, eqb}
 use borrow.Author.Tests.{le-ltb, ltb-false, not-false, eqb-true}
 use Rattle.pkt.specs.Answers.{Answer, refused, gives, andThen}
-use Rattle.inspect.specs.Header.{fieldAt, headerOf, totalOf, frameAnswer, verifies, readAnswer}
+use Rattle.inspect.specs.Header.{fieldAt, headerOf, lengthField, frameAnswer, readAnswer}
 use Rattle.inspect.specs.declared.header.IpRead.{IpRead}
 use Rattle.pkt.specs.Fields.{Bytes}
 use Rattle.pkt.proofs.Deciding.{past, held}
 use Rattle.inspect.proofs.Numbers.{field-below, part-front, field-front}
+use Rattle.pkt.specs.Rfc1071.{verifies}
 
 -- What is known of a header h that was read from l, up to its checksum.
 pub record Framed (l : List ℕ) (h : IpRead) : Type 0 where
@@ -88,15 +89,15 @@ header-front n l r h m =
       field-front 16 4 n l r (omega arith) m,
     )
 
-end-is : (l : List ℕ) → headerOf l .end ≡ totalOf l
+end-is : (l : List ℕ) → headerOf l .end ≡ lengthField l
 unfolding headerOf
 end-is l = refl
 
-module _ (l r : List ℕ) (long : 20 ≤ totalOf l) (there : totalOf l ≤ length l) where
-  frame-front : frameAnswer (take (totalOf l) l ++ r) ≡ frameAnswer l
+module _ (l r : List ℕ) (long : 20 ≤ lengthField l) (there : lengthField l ≤ length l) where
+  frame-front : frameAnswer (take (lengthField l) l ++ r) ≡ frameAnswer l
   unfolding frameAnswer
   frame-front =
-      let n : ℕ = totalOf l in
+      let n : ℕ = lengthField l in
       let m : List ℕ = take n l ++ r in
       let size : length m ≡ n + length r = simp (length-append, length-take) (omega arith) in
       let a = le-ltb (length m) 20 (omega arith) in
@@ -106,17 +107,17 @@ module _ (l r : List ℕ) (long : 20 ≤ totalOf l) (there : totalOf l ≤ lengt
       simp (a, b, field-front 0 1 n l r (omega arith) there, header-front n l r long there, d, f)
 
   -- The reader's answer is that of the first bytes, as many as the total length says, whatever is behind them.
-  pub read-front : readAnswer (take (totalOf l) l ++ r) ≡ readAnswer l
+  pub read-front : readAnswer (take (lengthField l) l ++ r) ≡ readAnswer l
   unfolding readAnswer
-  read-front = ap (λ (a : Answer IpRead). andThen a (summed (take (totalOf l) l ++ r))) frame-front ∙ go (frameAnswer l) refl
+  read-front = ap (λ (a : Answer IpRead). andThen a (summed (take (lengthField l) l ++ r))) frame-front ∙ go (frameAnswer l) refl
     where
-      go : (a : Answer IpRead) → frameAnswer l ≡ a → andThen a (summed (take (totalOf l) l ++ r)) ≡ andThen a (summed l)
+      go : (a : Answer IpRead) → frameAnswer l ≡ a → andThen a (summed (take (lengthField l) l ++ r)) ≡ andThen a (summed l)
       go (refused n) e = refl
       go (gives h) e =
           let f = framed l h e in
-          let n : h .end ≡ totalOf l = ap (λ (g : IpRead). g .end) (f .is) ∙ end-is l in
-          ap (λ (s : List ℕ). cond (verifies s) (gives h) (refused 7)) (part-front 0 (h .start) (totalOf l) l r (omega arith) there)
+          let n : h .end ≡ lengthField l = ap (λ (g : IpRead). g .end) (f .is) ∙ end-is l in
+          ap (λ (s : List ℕ). cond (verifies s) (gives h) (refused 7)) (part-front 0 (h .start) (lengthField l) l r (omega arith) there)
 
 -- what a header that was read says of its packet's length
-pub read-total : (l : List ℕ) (h : IpRead) → readAnswer l ≡ gives h → h .end ≡ totalOf l
+pub read-total : (l : List ℕ) (h : IpRead) → readAnswer l ≡ gives h → h .end ≡ lengthField l
 read-total l h e = ap (λ (g : IpRead). g .end) (read-framed l h e .is) ∙ end-is l

@@ -7,8 +7,8 @@ use mathlib.Core.List.{List, [], _++_}
 use lib.ListN.{length, take, drop, length-append}
 use borrow.Author.Tests.{le-ltb, eq-eqb, ne-eqb}
 use Rattle.pkt.specs.Answers.{Answer, refused, gives, andThen}
-use Rattle.pkt.specs.Fields.{field, widths, Bytes}
-use Rattle.pkt.specs.Rfc1071.{words, sum, checksum}
+use Rattle.pkt.specs.Fields.{field, Bytes}
+use Rattle.pkt.specs.Rfc1071.{words, sum, checksum, verifies}
 use Rattle.pkt.specs.Rfc768.{pseudo, udpFields, udpHeader, udpChecksum}
 use Rattle.pkt.specs.Rfc9293.{tcpFields, tcpHeader, tcpChecksum}
 use Rattle.pkt.specs.Rfc792.{echoHeader, echoChecksum}
@@ -17,10 +17,10 @@ use Rattle.pkt.specs.declared.ipv4.«udp_hdr».{«udp_hdr»}
 use Rattle.pkt.specs.declared.ipv4.«icmp_hdr».{«icmp_hdr»}
 use Rattle.pkt.specs.declared.ipv4.«icmp_echo_hdr».{«icmp_echo_hdr»}
 use Rattle.pkt.proofs.Checksum.{checksum-most, nonzero-range}
-use Rattle.pkt.proofs.Fields.{field-at}
+use Rattle.pkt.proofs.Fields.{field-at, widths}
 use Rattle.pkt.proofs.Headers.{tcp-length, udp-length, echo-length, tcp-verifies, udp-verifies, echo-verifies}
 use Rattle.inspect.specs.Answers.{Verdict, good, noChecksum}
-use Rattle.inspect.specs.Header.{fieldAt, verifies}
+use Rattle.inspect.specs.Header.{fieldAt}
 use Rattle.inspect.specs.Check.{isPiece, isOther, isCut, kindOf, wholeAnswer, unlessBad, verdictOf, partAnswer}
 use Rattle.inspect.specs.declared.header.IpRead.{IpRead}
 use Rattle.inspect.specs.declared.check.Kind.{Kind}

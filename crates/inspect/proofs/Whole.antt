@@ -7,7 +7,7 @@ use mathlib.Core.List.{List, _++_}
 use lib.Dec.{eqb}
 use borrow.Author.Tests.{le-ltb}
 use Rattle.pkt.specs.Answers.{refused, gives, sumSays, unlessLong}
-use Rattle.pkt.specs.Rfc1071.{words, sum, checksum}
+use Rattle.pkt.specs.Rfc1071.{words, sum, checksum, verifies}
 use Rattle.pkt.specs.Rfc768.{pseudo, pseudoFields}
 use Rattle.pkt.specs.Sums.{total}
 use Rattle.pkt.specs.declared.ipv4.Sum.{Sum}
@@ -16,7 +16,7 @@ use Rattle.pkt.proofs.Bytes.{bytes-append}
 use Rattle.pkt.specs.Fields.{Bytes}
 use Rattle.pkt.proofs.Fields.{fields-bytes}
 use Rattle.pkt.proofs.Checksum.{sum-total, canon-most}
-use Rattle.inspect.specs.Header.{isZero, verifies}
+use Rattle.inspect.specs.Header.{isZero}
 use Rattle.pkt.proofs.Choice.{same-test}
 
 sum-most : (l : List ℕ) → Bytes l → sum (words l) ≤ 65535

@@ -7,10 +7,11 @@ use lib.Dec.{ltb, eqb}
 use Rattle.pkt.specs.Answers.{Answer, refused, gives, andThen}
 use Rattle.pkt.specs.Rfc768.{pseudo}
 use Rattle.inspect.specs.Answers.{Verdict, good, noChecksum}
-use Rattle.inspect.specs.Header.{fieldAt, verifies, readAnswer, dataOf}
+use Rattle.inspect.specs.Header.{fieldAt, readAnswer, dataOf}
 use Rattle.inspect.specs.declared.header.IpRead.{IpRead}
 use Rattle.inspect.specs.declared.check.Kind.{Kind}
 use Rattle.inspect.specs.declared.check.Kind.the-variants.{Tcp, Udp, Bare, Icmp}
+use Rattle.pkt.specs.Rfc1071.{verifies}
 
 -- 13: "offset not 0, or MF set"
 abbrev pub ofMany : Bool → ℕ → Bool

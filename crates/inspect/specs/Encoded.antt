@@ -1,19 +1,8 @@
 -- What the reader owes a header that was encoded.
-use Prim.Native.Nat.{_%_, _<_}
+use Prim.Native.Nat.{_%_}
 use Rattle.pkt.specs.declared.ipv4.«ip_hdr».{«ip_hdr»}
 use Rattle.inspect.specs.Header.{hasBit}
 use Rattle.inspect.specs.declared.header.IpRead.{IpRead}
-
--- The numbers of a header fit their fields.
-pub record Fit (h : «ip_hdr») : Type 0 where
-  pub tos : h .tos < 256
-  pub total : h .«tot_len» < 65536
-  pub id : h .id < 65536
-  pub frag : h .«frag_off» < 65536
-  pub ttl : h .ttl < 256
-  pub protocol : h .protocol < 256
-  pub saddr : h .saddr < 4294967296
-  pub daddr : h .daddr < 4294967296
 
 -- its fields, the bits and the offset out of the 16-bit field, and where its data is
 unfoldable pub readOf : «ip_hdr» → IpRead

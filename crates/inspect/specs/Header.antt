@@ -5,7 +5,7 @@ use mathlib.Core.List.{List}
 use lib.ListN.{length, take, drop}
 use lib.Dec.{ltb, eqb}
 use Rattle.pkt.specs.Answers.{Answer, refused, gives, andThen}
-use Rattle.pkt.specs.Rfc1071.{words, sum}
+use Rattle.pkt.specs.Rfc1071.{verifies}
 use Rattle.pkt.specs.Fields.{value}
 use Rattle.pkt.specs.declared.ipv4.Sum.{Sum}
 use Rattle.pkt.specs.declared.ipv4.Sum.the-variants as csum
@@ -16,8 +16,8 @@ unfoldable pub fieldAt : List ℕ → ℕ → ℕ → ℕ
 fieldAt l at k = value 0 (take k (drop at l))
 
 -- the total length that l names
-abbrev pub totalOf : List ℕ → ℕ
-totalOf l = fieldAt l 2 2
+abbrev pub lengthField : List ℕ → ℕ
+lengthField l = fieldAt l 2 2
 
 -- whether the bit that stands for n is set in a number
 abbrev pub hasBit : ℕ → ℕ → Bool
@@ -29,7 +29,7 @@ unfoldable pub headerOf : List ℕ → IpRead
 headerOf l =
     record {
       tos = fieldAt l 1 1;
-      «tot_len» = totalOf l;
+      «tot_len» = lengthField l;
       id = fieldAt l 4 2;
       evil = hasBit 0x8000 (fieldAt l 6 2);
       df = hasBit 0x4000 (fieldAt l 6 2);
@@ -40,7 +40,7 @@ headerOf l =
       saddr = fieldAt l 12 4;
       daddr = fieldAt l 16 4;
       start = 20;
-      end = totalOf l;
+      end = lengthField l;
     }
 
 -- Numbers 4 (under 20), 5, 6 and 4 (total): what the header says of a packet that is all there.
@@ -50,10 +50,6 @@ frameAnswer l =
     (cond (not (eqb (fieldAt l 0 1) 0x45)) (refused 5)
     (cond (ltb (headerOf l .end) (headerOf l .start)) (refused 6)
     (cond (ltb (length l) (headerOf l .end)) (refused 4) (gives (headerOf l)))))
-
--- RFC 1071, 1, (3): the sum over these bytes is all 1 bits
-abbrev pub verifies : List ℕ → Bool
-verifies l = eqb (sum (words l)) 65535
 
 -- a checksum of bytes with their own checksum among them: 0 exactly if they verify
 abbrev pub isZero : Sum → Bool

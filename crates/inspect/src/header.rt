@@ -7,7 +7,8 @@ ghost use mathlib.Core.Path.{_≡_};
 ghost use Prim.Native.Nat.{_+_, _≤_};
 ghost use lib.ListN.{length};
 ghost use Rattle.inspect.specs.Answers.{readSays};
-ghost use Rattle.inspect.specs.Header.{fieldAt, headerOf, frameAnswer, isZero, verifies, readAnswer};
+ghost use Rattle.inspect.specs.Header.{fieldAt, headerOf, frameAnswer, isZero, readAnswer};
+ghost use Rattle.pkt.specs.Rfc1071.{verifies};
 
 // What a packet's header says. Its data is the bytes from start up to, not including, end.
 pub struct IpRead {

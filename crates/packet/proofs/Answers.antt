@@ -7,8 +7,9 @@ use mathlib.Core.List.{List}
 use Rattle.pkt.specs.Answers.{Answer, refused, gives}
 use Rattle.pkt.proofs.Deciding.{bounded}
 use Rattle.packet.specs.Headroom.{mostEnd, valid}
-use Rattle.packet.specs.Answers.{Grown, pushAnswer, lowerAnswer, unlessRefused}
+use Rattle.packet.specs.Answers.{Grown, pushAnswer, lowerAnswer}
 use Rattle.packet.specs.declared.Packet.{Packet}
+use Rattle.pkt.specs.Written.{unlessRefused}
 
 -- Where something is given the record is valid.
 given : {A : Type 0} (t : Bool) (x : ℕ) (rest : Answer A) (a : A) → cond t rest (refused x) ≡ gives a → (t ≡ true) × (rest ≡ gives a)

@@ -3,8 +3,9 @@
 --     00010 | 6c 61 70 21                                     lap!
 use mathlib.Core.Path.{_≡_, refl}
 use mathlib.Core.List.{[], _∷_, _++_}
-use Rattle.packet.specs.Headroom.{packet, zeros}
+use Rattle.packet.specs.Headroom.{packet}
 use Rattle.packet.specs.Dump.{numeral, digitsIn, digitsOf, decimal, hexes, left, right, line, lines, dumpBytes, dumpOf}
+use Rattle.pkt.specs.Written.{zeros}
 
 pub lap-dump : dumpOf (packet 16 20) (zeros 16 ++ (0x6c ∷ 0x61 ∷ 0x70 ∷ 0x21 ∷ []))
     ≡ 0x34 ∷ 0x20 ∷ 0x62 ∷ 0x79 ∷ 0x74 ∷ 0x65 ∷ 0x20 ∷ 0x70 ∷ 0x61 ∷ 0x63 ∷ 0x6b ∷ 0x65 ∷ 0x74 ∷ 0x3a ∷ 0x0a

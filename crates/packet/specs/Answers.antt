@@ -5,9 +5,9 @@ use mathlib.Core.Bool.{Bool, cond, _&&_}
 use mathlib.Core.List.{List}
 use lib.ListN.{length}
 use lib.Dec.{ltb}
-use Rattle.pkt.specs.Answers.{Answer, refused, gives}
-use Rattle.pkt.specs.Written.{written}
-use Rattle.packet.specs.Headroom.{mostEnd, valid, lenOf, packet, part, within, leads, bytesAt, wholeOf, zeros, placed}
+use Rattle.pkt.specs.Answers.{Answer, refused, gives, fitting}
+use Rattle.pkt.specs.Written.{written, unlessRefused, zeros}
+use Rattle.packet.specs.Headroom.{mostEnd, valid, lenOf, packet, part, within, leads, bytesAt, wholeOf, placed}
 use Rattle.packet.specs.Dump.{dumpOf}
 use Rattle.packet.specs.declared.Packet.{Packet}
 use Rattle.packet.specs.declared.PktSlice.{PktSlice}
@@ -83,14 +83,9 @@ returnAnswer p s n = ifValid p n (cond (leads p s) (gives (packet (p .headroom +
 
 -- k bytes into an output of room bytes, where ok says that they are there to be copied
 abbrev pub copyAnswer : Bool → ℕ → ℕ → Answer ℕ
-copyAnswer ok k room = cond ok (cond (ltb room k) (refused 3) (gives k)) (refused 16)
+copyAnswer ok k room = cond ok (fitting k room) (refused 16)
 
 -- ---- whole promises
-
--- what a buffer holds after an answer: x, or on a refusal what it held, b
-abbrev pub unlessRefused : {A : Type 0} → Answer A → List ℕ → List ℕ → List ℕ
-unlessRefused (gives a) x b = x
-unlessRefused (refused n) x b = b
 
 -- The one answer r, which says a, and the one buffer b′ after the call.
 pub record Done {R A : Type 0} (says : R → Answer A) (a : Answer A) (x b : List ℕ) (r : R) (b′ : List ℕ) : Type 0 where
@@ -98,8 +93,8 @@ pub record Done {R A : Type 0} (says : R → Answer A) (a : Answer A) (x b : Lis
   pub after : b′ ≡ unlessRefused a x b
 
 -- a new packet in the buffer b: the headroom's bytes are zero
-abbrev pub Opened : ℕ → List ℕ → Made → List ℕ → Type 0
-Opened h b r b′ = Done madeSays (newAnswer h (length b)) (written (zeros h) b) b r b′
+abbrev pub MadeNew : ℕ → List ℕ → Made → List ℕ → Type 0
+MadeNew h b r b′ = Done madeSays (newAnswer h (length b)) (written (zeros h) b) b r b′
 
 -- k bytes appended, which are d
 abbrev pub Appended : Packet → ℕ → List ℕ → List ℕ → Pushed → List ℕ → Type 0

@@ -2,7 +2,7 @@
 use Prim.Native.Nat.{ℕ, _+_, _-_}
 use mathlib.Core.Bool.{Bool, _&&_}
 use mathlib.Core.List.{List, _++_}
-use lib.ListN.{length, take, drop, replicate}
+use lib.ListN.{length, take, drop}
 use lib.Dec.{leb, eqb}
 use Rattle.packet.specs.declared.Packet.{Packet}
 use Rattle.packet.specs.declared.PktSlice.{PktSlice}
@@ -39,9 +39,6 @@ bytesAt s b = take (s .len) (drop (s .off) b)
 -- the part that is the whole packet: never the headroom
 abbrev pub wholeOf : Packet → PktSlice
 wholeOf p = part (p .headroom) (lenOf p)
-
-abbrev pub zeros : ℕ → List ℕ
-zeros n = replicate n 0
 
 -- the buffer b with the bytes d from place i on, and the rest as it was
 unfoldable pub placed : ℕ → List ℕ → List ℕ → List ℕ

@@ -12,9 +12,10 @@ ghost use mathlib.Core.Bool.{true};
 ghost use lib.ListN.{length};
 ghost use lib.Dec.{eqb};
 ghost use Rattle.pkt.specs.Answers.{gives};
-ghost use Rattle.packet.specs.Headroom.{valid, lenOf, within, leads, bytesAt, wholeOf, zeros};
+ghost use Rattle.packet.specs.Headroom.{valid, lenOf, within, leads, bytesAt, wholeOf};
 ghost use Rattle.packet.specs.Dump.{dumpOf};
-ghost use Rattle.packet.specs.Answers.{numberSays, truthSays, partSays, madeSays, pushedSays, ifValid, bitTimeOf, pushAnswer, lowerAnswer, returnAnswer, Opened, Appended, Prepended, CopiedOut, WholeCopied, PartCopied, Dumped};
+ghost use Rattle.packet.specs.Answers.{numberSays, truthSays, partSays, madeSays, pushedSays, ifValid, bitTimeOf, pushAnswer, lowerAnswer, returnAnswer, MadeNew, Appended, Prepended, CopiedOut, WholeCopied, PartCopied, Dumped};
+ghost use Rattle.pkt.specs.Written.{zeros};
 
 // No packet ends behind this place.
 const MOST_END: usize = 1048576;
@@ -155,7 +156,7 @@ fn lower_answer(p: Packet, k: usize, n: usize) -> Pushed
 impl Packet {
     // A packet of no byte behind a headroom whose bytes are zero.
     pub fn new(headroom: usize, buf: &mut [u8]) -> Made
-        ensures { λ r. ⌜ Opened headroom (now (buf .entry)) r (now (buf .exit)) ⌝ }
+        ensures { λ r. ⌜ MadeNew headroom (now (buf .entry)) r (now (buf .exit)) ⌝ }
     {
         if headroom > MOST_END {
             return Made::Refused(refusal::BAD_PART);

@@ -2,8 +2,8 @@
 ghost use mathlib.Core.Path.{_≡_};
 ghost use Prim.Native.Nat.{_+_, _≤_};
 ghost use lib.ListN.{length, replicate};
-ghost use Rattle.pkt.specs.Written.{written};
-ghost use Rattle.packet.specs.Headroom.{placed, zeros};
+ghost use Rattle.pkt.specs.Written.{written, zeros};
+ghost use Rattle.packet.specs.Headroom.{placed};
 
 // n times the byte v at the start of dst.
 pub(crate) fn fill(dst: &mut [u8], n: usize, v: u8)

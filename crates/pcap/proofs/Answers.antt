@@ -3,10 +3,10 @@ use mathlib.Core.Path.{_≡_, refl, sym, _∙_}
 use Prim.Native.Nat.{ℕ, _+_, _≤_}
 use mathlib.Core.List.{List}
 use borrow.Author.Tests.{le-ltb}
-use Rattle.pkt.specs.Answers.{Answer, refused, gives}
+use Rattle.pkt.specs.Answers.{Answer, refused, gives, fitting}
 use Rattle.pkt.proofs.Deciding.{bounded}
 use Rattle.pkt.proofs.Only.{told-once}
-use Rattle.pcap.specs.Answers.{capturedSays, fitting, recordAnswer, Wrote}
+use Rattle.pcap.specs.Answers.{capturedSays, recordAnswer, Wrote}
 use Rattle.pcap.specs.declared.Captured.{Captured}
 use Rattle.pcap.specs.declared.Captured.the-variants.{Bytes, Refused}
 

@@ -1,4 +1,3 @@
 pub mod Answers
 pub mod Pcap
 pub mod Read
-pub mod Example

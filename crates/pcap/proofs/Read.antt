@@ -11,7 +11,7 @@ use borrow.Author.Tests.{le-ltb, ne-eqb}
 use Rattle.pkt.specs.Answers.{Answer}
 use Rattle.pkt.specs.Written.{written, leaves}
 use Rattle.pcap.specs.Pcap.{le, fileHeader, recordHeader, recordBytes, Stamped, recordsBytes, captureBytes}
-use Rattle.pcap.specs.Answers.{Taken, AllTaken, afterRecord, afterRecords, afterCapture}
+use Rattle.pcap.specs.Answers.{Takable, AllTakable, afterRecord, afterRecords, afterCapture}
 use Rattle.pcap.specs.Read.{leValue, number, Recorded, whole, recordAt, recordsIn, readFile, wholly, captured}
 use Rattle.pkt.proofs.Written.{written-then, written-length}
 use Rattle.pcap.proofs.Answers.{fitting-taken, record-taken}
@@ -60,8 +60,8 @@ module _ (s u : ℕ) (d q : List ℕ) (hs : s < 256 ^ 4) (hu : u < 256 ^ 4) (hd 
       rw (a, b, captured-is, c, rest-is, record-is, e)
 
 -- Over any number of records: those that were written are those that are read.
-pub records-read : (rs : List Stamped) (most : ℕ) → AllTaken rs → length rs < most → recordsIn most (recordsBytes rs) ≡ whole (map wholly rs)
-unfolding recordsBytes recordsIn AllTaken wholly
+pub records-read : (rs : List Stamped) (most : ℕ) → AllTakable rs → length rs < most → recordsIn most (recordsBytes rs) ≡ whole (map wholly rs)
+unfolding recordsBytes recordsIn AllTakable wholly
 records-read rs zero h m = absurd (omega arith)
 records-read [] (suc most) h m = refl
 records-read (r ∷ rs) (suc most) (h, t) m =
@@ -79,7 +79,7 @@ many (r ∷ rs) =
     )
 
 -- A capture, read by the published layout, has the version, snap length and link type that it should, and the times and packets that went in.
-pub capture-read : (rs : List Stamped) → AllTaken rs → readFile (captureBytes rs) ≡ captured rs
+pub capture-read : (rs : List Stamped) → AllTakable rs → readFile (captureBytes rs) ≡ captured rs
 unfolding readFile captured captureBytes fileHeader number leValue
 capture-read rs h =
     let t : ltb (length (captureBytes rs)) 24 ≡ false = le-ltb (length (captureBytes rs)) 24 (omega arith) in
@@ -88,7 +88,7 @@ capture-read rs h =
 -- ---- a run of calls
 
 -- A record that has room is written where the output is lent from the end of a on, and everything else stays.
-one-call : (r : Stamped) (a o : List ℕ) (n : ℕ) → Taken r → length a ≡ n → n + (16 + length (r .packet)) ≤ length o
+one-call : (r : Stamped) (a o : List ℕ) (n : ℕ) → Takable r → length a ≡ n → n + (16 + length (r .packet)) ≤ length o
     → take n (written a o) ++ afterRecord r (drop n (written a o)) ≡ written (a ++ recordBytes (r .sec) (r .usec) (r .packet)) o
 unfolding afterRecord
 one-call r a o n h l room =
@@ -98,9 +98,9 @@ one-call r a o n h l room =
     let e = ap (λ (x : Answer ℕ). leaves x b (drop n (written a o))) (record-taken (length (r .packet)) (r .usec) _ (h .short) (h .micros) size) in
     ap (λ (t : List ℕ). take n (written a o) ++ t) e ∙ written-then a b o n l
 
-calls : (rs : List Stamped) (a o : List ℕ) (n : ℕ) → AllTaken rs → length a ≡ n → n + length (recordsBytes rs) ≤ length o
+calls : (rs : List Stamped) (a o : List ℕ) (n : ℕ) → AllTakable rs → length a ≡ n → n + length (recordsBytes rs) ≤ length o
     → afterRecords rs n (written a o) ≡ written (a ++ recordsBytes rs) o
-unfolding AllTaken afterRecords recordsBytes
+unfolding AllTakable afterRecords recordsBytes
 calls [] a o n h l room = rw append-nil
 calls (r ∷ rs) a o n (h, t) l room =
     let b : List ℕ = recordBytes (r .sec) (r .usec) (r .packet) in
@@ -112,7 +112,7 @@ calls (r ∷ rs) a o n (h, t) l room =
     ∙ ap (λ (x : List ℕ). written x o) (append-assoc a b (recordsBytes rs))
 
 -- A file header and records that have room, written one behind the other, are the capture, with the rest of the output as it was.
-pub capture-written : (rs : List Stamped) (o : List ℕ) → AllTaken rs → length (captureBytes rs) ≤ length o → afterCapture rs o ≡ written (captureBytes rs) o
+pub capture-written : (rs : List Stamped) (o : List ℕ) → AllTakable rs → length (captureBytes rs) ≤ length o → afterCapture rs o ≡ written (captureBytes rs) o
 unfolding afterCapture captureBytes
 capture-written rs o h room =
     let all = length-append fileHeader (recordsBytes rs) in
@@ -121,7 +121,7 @@ capture-written rs o h room =
     ap (afterRecords rs 24) e ∙ calls rs fileHeader o 24 h l (omega arith)
 
 -- Reading the output back gives the times and packets that went in.
-pub written-read : (rs : List Stamped) (o : List ℕ) → AllTaken rs → length (captureBytes rs) ≤ length o
+pub written-read : (rs : List Stamped) (o : List ℕ) → AllTakable rs → length (captureBytes rs) ≤ length o
     → readFile (take (length (captureBytes rs)) (afterCapture rs o)) ≡ captured rs
 unfolding written
 written-read rs o h room = rw (capture-written rs o h room, take-at (captureBytes rs) _ _ refl) (capture-read rs h)

@@ -5,7 +5,7 @@ use mathlib.Core.Bool.{cond}
 use mathlib.Core.List.{List, [], _∷_, _++_}
 use lib.ListN.{length, take, drop}
 use lib.Dec.{ltb}
-use Rattle.pkt.specs.Answers.{Answer, refused, gives}
+use Rattle.pkt.specs.Answers.{Answer, refused, gives, fitting}
 use Rattle.pkt.specs.Written.{leaves}
 use Rattle.pcap.specs.Pcap.{fileHeader, recordBytes, Stamped}
 use Rattle.pcap.specs.declared.Captured.{Captured}
@@ -14,10 +14,6 @@ use Rattle.pcap.specs.declared.Captured.the-variants.{Bytes, Refused}
 abbrev pub capturedSays : Captured → Answer ℕ
 capturedSays (Bytes n) = gives n
 capturedSays (Refused n) = refused n
-
--- size bytes are written, or there is no room for them
-abbrev pub fitting : ℕ → ℕ → Answer ℕ
-fitting size room = cond (ltb room size) (refused 3) (gives size)
 
 -- Document 01, "Capture 1, 17, 3": the answer for a packet of n bytes, a time's microseconds, and an output of room bytes
 abbrev pub recordAnswer : ℕ → ℕ → ℕ → Answer ℕ
@@ -39,15 +35,15 @@ RecordWritten sec usec d o r o′ = Wrote (recordAnswer (length d) usec (length 
 -- ---- a run of calls
 
 -- the packets that a call takes: at most 65,535 bytes, microseconds up to 999,999; seconds are of 32 bits
-pub record Taken (r : Stamped) : Type 0 where
+pub record Takable (r : Stamped) : Type 0 where
   pub seconds : r .sec < 2 ^ 32
   pub micros : r .usec ≤ 999999
   pub short : length (r .packet) ≤ 65535
 
 -- every one of them
-unfoldable pub AllTaken : List Stamped → Type 0
-AllTaken [] = Unit {0}
-AllTaken (r ∷ rs) = Taken r × AllTaken rs
+unfoldable pub AllTakable : List Stamped → Type 0
+AllTakable [] = Unit {0}
+AllTakable (r ∷ rs) = Takable r × AllTakable rs
 
 -- what write_record leaves in the output o
 unfoldable pub afterRecord : Stamped → List ℕ → List ℕ

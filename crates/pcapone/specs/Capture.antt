@@ -4,8 +4,8 @@ use mathlib.Core.Bool.{cond}
 use mathlib.Core.List.{List, [], _∷_}
 use lib.ListN.{length}
 use lib.Dec.{ltb}
-use Rattle.pkt.specs.Answers.{Answer, refused}
-use Rattle.pcap.specs.Answers.{fitting, Wrote}
+use Rattle.pkt.specs.Answers.{Answer, refused, fitting}
+use Rattle.pcap.specs.Answers.{Wrote}
 use Rattle.pcap.specs.Pcap.{captureBytes}
 use Rattle.pcap.specs.declared.Captured.{Captured}
 use Rattle.ezpkt.specs.Build.{packetOf}
@@ -22,6 +22,10 @@ fileOf d = captureBytes (record { sec = 0; usec = 0; packet = d } ∷ [])
 -- Document 01, "building 1, 2, 3": the answer for a payload of n bytes and an output of room bytes. An echo carries at most 65,507 bytes.
 abbrev pub captureAnswer : ℕ → ℕ → Answer ℕ
 captureAnswer n room = cond (ltb 65507 n) (refused 1) (fitting (68 + n) room)
+
+-- "reads at most 4,096 bytes of standard input (more: it writes nothing)": how many bytes of the output are written for n bytes of input
+abbrev pub sizeFor : ℕ → ℕ
+sizeFor n = cond (ltb 4096 n) 0 (68 + n)
 
 -- The whole promise, for a payload p and an output o.
 abbrev pub EchoCaptured : List ℕ → List ℕ → Captured → List ℕ → Type 0

@@ -6,7 +6,7 @@ ghost use mathlib.Core.Path.{_≡_};
 ghost use Prim.Native.Nat.{_+_, _≤_};
 ghost use lib.ListN.{length};
 ghost use Rattle.pkt.specs.Written.{written};
-ghost use Rattle.pcapone.specs.Capture.{fileOf, EchoCaptured};
+ghost use Rattle.pcapone.specs.Capture.{fileOf, EchoCaptured, sizeFor};
 
 const CLIENT: u32 = 0x0a000001;
 
@@ -37,4 +37,15 @@ pub fn echo_capture(payload: &[u8], out: &mut [u8]) -> Captured
     let end = 28 + n;
     put_file(&packet[0..end], out);
     Captured::Bytes(68 + n)
+}
+
+// How many bytes of the capture are written for n bytes of input: all, or none if there are too many.
+pub fn size(n: usize) -> usize
+    ensures { λ r. ⌜ r ≡ sizeFor n ⌝ }
+    ensures { λ r. ⌜ r ≤ 4164 ⌝ }
+{
+    if n > 4096 {
+        return 0;
+    }
+    68 + n
 }

@@ -7,7 +7,7 @@ use mathlib.Core.List.{List, [], _∷_, _++_, append-assoc}
 use lib.ListN.{length, take, drop, length-append}
 use lib.Seq.{take-at, drop-at}
 use lib.Arith.{mod-mul}
-use Rattle.pkt.specs.Fields.{be, value, Field, fields, widths, Bytes}
+use Rattle.pkt.specs.Fields.{be, value, Field, fields, Bytes}
 use Rattle.pkt.proofs.Bytes.{bytes-nil, bytes-cons, bytes-append}
 
 pub be-length : (k x : ℕ) → length (be k x) ≡ k
@@ -23,6 +23,11 @@ be-bytes (suc k) x =
 pub fields-bytes : (fs : List Field) → Bytes (fields fs)
 fields-bytes [] = bytes-nil
 fields-bytes (f ∷ fs) = bytes-append (be (f .width) (f .number)) (fields fs) (be-bytes (f .width) (f .number)) (fields-bytes fs)
+
+-- how many bytes fields take
+unfoldable pub widths : List Field → ℕ
+widths [] = 0
+widths (f ∷ fs) = f .width + widths fs
 
 pub fields-length : (fs : List Field) → length (fields fs) ≡ widths fs
 unfolding widths

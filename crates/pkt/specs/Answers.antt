@@ -38,6 +38,10 @@ sumSays (Refused n) = refused n
 abbrev pub unlessLong : ℕ → ℕ → ℕ → Answer ℕ
 unlessLong most n c = cond (ltb most n) (refused 1) (gives c)
 
+-- Number 3: size bytes are written, or there is not room for so many.
+abbrev pub fitting : ℕ → ℕ → Answer ℕ
+fitting size room = cond (ltb room size) (refused 3) (gives size)
+
 -- "more than 65,535 bytes to sum"
 abbrev pub csumAnswer : List ℕ → Answer ℕ
 csumAnswer l = unlessLong 65535 (length l) (checksum l)

@@ -25,12 +25,7 @@ abbrev pub fields : List Field → List ℕ
 fields [] = []
 fields (f ∷ fs) = be (f .width) (f .number) ++ fields fs
 
--- how many bytes they take
-unfoldable pub widths : List Field → ℕ
-widths [] = 0
-widths (f ∷ fs) = f .width + widths fs
-
--- the number that bytes stand for, the first the highest
+-- the number that bytes stand for, the first the highest, behind those that acc stands for
 unfoldable pub value : ℕ → List ℕ → ℕ
 value acc [] = acc
 value acc (b ∷ bs) = value (acc * 256 + b) bs

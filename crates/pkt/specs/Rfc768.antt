@@ -26,6 +26,6 @@ nonzero zero = 65535
 nonzero (suc n) = suc n
 
 -- Checksum: of the pseudo header, the UDP header and the data, between the addresses s and d. The pseudo header's length is that of the
--- header and the data; the header carries its own number, which for every datagram that is built is the same.
+-- header and the data; the header has a length field of its own, which is the same in every datagram that is built.
 unfoldable pub udpChecksum : ℕ → ℕ → «udp_hdr» → List ℕ → ℕ
 udpChecksum s d h p = nonzero (checksum (pseudo s d 17 (8 + length p) ++ (udpHeader h 0 ++ p)))

@@ -1,5 +1,5 @@
 -- The sequence numbers of a flow over many calls: document 01, 'Sequence state'.
-use Prim.Native.Nat.{ℕ, _+_, _%_}
+use Prim.Native.Nat.{ℕ, _+_, _%_, _<_}
 use mathlib.Core.Path.{_≡_}
 use mathlib.Core.List.{List, [], _∷_}
 use lib.ListN.{length}
@@ -93,4 +93,21 @@ begun w f = record { start = seqOf w f; since = 0 }
 
 -- a number is what a count comes to, modulo 2^32
 abbrev pub Counts : ℕ → Count → Type 0
-Counts n k = n % 4294967296 ≡ (k .start + k .since) % 4294967296
+Counts n k = n ≡ (k .start + k .since) % 4294967296
+
+-- a number that is set is below 2^32, as every u32 is
+abbrev pub Below : Seq → Type 0
+Below (Is n) = n < 4294967296
+Below Nothing = Unit {0}
+
+-- what a call sets for a side is, and what each of several calls sets
+abbrev pub SetsBelow : Side → Call → Type 0
+SetsBelow w (sends es room) = Unit {0}
+SetsBelow w (hole s n) = Unit {0}
+SetsBelow w (header s dlen csum) = Unit {0}
+SetsBelow w (push c s) = Below (sideOf w c s)
+SetsBelow w (pop c s) = Below (sideOf w c s)
+
+abbrev pub AllBelow : Side → List Call → Type 0
+AllBelow w [] = Unit {0}
+AllBelow w (c ∷ cs) = SetsBelow w c × AllBelow w cs

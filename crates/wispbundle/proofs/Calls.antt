@@ -1,9 +1,8 @@
 -- What each wrapped call promises, told to C.
-use mathlib.Core.Path.{_≡_, refl, ap, _∙_}
+use mathlib.Core.Path.{_≡_, ap, _∙_}
 use mathlib.Core.List.{List}
 use Prim.Native.Nat.{ℕ}
-use Rattle.pkt.specs.Answers.{Answer, refused, gives}
-use Rattle.pkt.specs.Written.{leaves, written}
+use Rattle.pkt.specs.Answers.{Answer}
 use Rattle.ezpkt.specs.Answers.{builtSays}
 use Rattle.ezpkt.specs.Build.{Answered}
 use Rattle.tcp4.specs.Tcp4 as tcp
@@ -16,10 +15,7 @@ use Rattle.ezpkt.specs.declared.icmp4.IcmpFlow.{IcmpFlow}
 use Rattle.ezpkt.specs.declared.icmp4.Sent as icmp-answer
 use Rattle.pcap.specs.Answers.{Wrote, capturedSays}
 use Rattle.pcap.specs.declared.Captured.{Captured}
-use lib.ListN.{length}
-use Rattle.packet.specs.Headroom.{valid}
-use Rattle.packet.specs.Dump.{dumpOf}
-use Rattle.packet.specs.Answers.{Dumped, numberSays, unlessRefused, copyAnswer}
+use Rattle.packet.specs.Answers.{Dumped, numberSays}
 use Rattle.packet.specs.declared.Packet.{Packet}
 use Rattle.packet.specs.declared.Number.{Number}
 use Rattle.assembly.specs.View.{view}
@@ -53,17 +49,9 @@ pub captures : {a : Answer ℕ} {b o o′ : List ℕ} {k : Captured} {r : «wb_l
     → r ≡ lengthFor (capturedSays k) → Wrote a b o k o′ → Writes a b o r o′
 captures e x = record { answer = e ∙ ap lengthFor (x .answer); after = x .after }
 
-copied-leaves : (a : Answer ℕ) (d o : List ℕ) → unlessRefused a (written d o) o ≡ leaves a d o
-copied-leaves (gives k) d o = refl
-copied-leaves (refused n) d o = refl
-
 pub dumps : (p : Packet) (b o : List ℕ) {o′ : List ℕ} {k : Number} {r : «wb_length»}
     → r ≡ lengthFor (numberSays k) → Dumped p b o k o′ → Dumps p b o r o′
-dumps p b o e x =
-    record {
-      answer = e ∙ ap lengthFor (x .answer);
-      after = x .after ∙ copied-leaves (copyAnswer (valid p (length b)) (length (dumpOf p b)) (length o)) (dumpOf p b) o;
-    }
+dumps p b o e x = record { answer = e ∙ ap lengthFor (x .answer); after = x .after }
 
 pub assembly-opens : {k : Key} {d m d′ m′ : List ℕ} {a : Opened} {r : «wb_opened»}
     → r ≡ openedFor (openedSays a) → Opens capacity mapBytes k d m a d′ m′ → AssemblyOpens k d m r d′ m′

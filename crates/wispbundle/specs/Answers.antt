@@ -53,8 +53,8 @@ tcpFor f (gives g) = tcpEnds 0 (g .flow) (getD (g .ends) 0 0) (getD (g .ends) 1 
 tcpFor f (refused n) = tcpEnds n f 0 0 0
 
 -- a number for a side, or nothing for it; and back
-abbrev pub seqOf : «wb_seq» → Seq
-seqOf s = cond (s .«is_set») (Is (s .number)) Nothing
+abbrev pub seqFrom : «wb_seq» → Seq
+seqFrom s = cond (s .«is_set») (Is (s .number)) Nothing
 
 abbrev pub seqFor : Seq → «wb_seq»
 seqFor (Is n) = record { «is_set» = true; number = n }

@@ -3,8 +3,9 @@ use crate::lengths::wb_length;
 use pcap::Captured;
 ghost use mathlib.Core.Path.{_≡_};
 ghost use lib.ListN.{length};
+ghost use Rattle.pkt.specs.Answers.{fitting};
 ghost use Rattle.pcap.specs.Pcap.{fileHeader, recordBytes};
-ghost use Rattle.pcap.specs.Answers.{capturedSays, fitting, recordAnswer};
+ghost use Rattle.pcap.specs.Answers.{capturedSays, recordAnswer};
 ghost use Rattle.wispbundle.specs.Answers.{lengthFor};
 ghost use Rattle.wispbundle.specs.Calls.{Writes};
 

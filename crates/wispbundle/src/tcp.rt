@@ -9,7 +9,7 @@ ghost use mathlib.Core.Path.{_≡_};
 ghost use mathlib.Core.List.{[], _∷_};
 ghost use Rattle.tcp4.specs.Tcp4.{newFlow, sentSays, advance, emit, opening, closing, messageOf, popped, pushed, headed};
 ghost use Rattle.tcp4.specs.declared.Side.the-variants.{Client, Server};
-ghost use Rattle.wispbundle.specs.Answers.{seqOf, seqFor, pushedFor, tcpEnds, tcpFor};
+ghost use Rattle.wispbundle.specs.Answers.{seqFrom, seqFor, pushedFor, tcpEnds, tcpFor};
 ghost use Rattle.wispbundle.specs.Calls.{TcpSends};
 
 // The flow, and where each packet ends in the buffer: 0 for one that is not there.
@@ -61,7 +61,7 @@ fn sent(before: TcpFlow, answer: Sent) -> wb_tcp_sent
 }
 
 fn seq(given: wb_seq) -> Seq
-    ensures { λ r. ⌜ r ≡ seqOf given ⌝ }
+    ensures { λ r. ⌜ r ≡ seqFrom given ⌝ }
 {
     if given.is_set {
         Seq::Is(given.number)
@@ -237,14 +237,14 @@ pub extern "C" fn wb_tcp_server_hdr(flow: TcpFlow, dlen: u32, csum: u16) -> Head
 
 #[no_mangle]
 pub extern "C" fn wb_tcp_push_state(flow: TcpFlow, cl_seq: wb_seq, sv_seq: wb_seq) -> wb_pushed
-    ensures { λ r. ⌜ r ≡ pushedFor (pushed flow (seqOf «cl_seq») (seqOf «sv_seq»)) ⌝ }
+    ensures { λ r. ⌜ r ≡ pushedFor (pushed flow (seqFrom «cl_seq») (seqFrom «sv_seq»)) ⌝ }
 {
     both(flow.push_state(seq(cl_seq), seq(sv_seq)))
 }
 
 #[no_mangle]
 pub extern "C" fn wb_tcp_pop_state(flow: TcpFlow, cl_seq: wb_seq, sv_seq: wb_seq) -> TcpFlow
-    ensures { λ r. ⌜ r ≡ popped flow (seqOf «cl_seq») (seqOf «sv_seq») ⌝ }
+    ensures { λ r. ⌜ r ≡ popped flow (seqFrom «cl_seq») (seqFrom «sv_seq») ⌝ }
 {
     flow.pop_state(seq(cl_seq), seq(sv_seq))
 }

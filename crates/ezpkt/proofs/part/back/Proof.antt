@@ -14,7 +14,7 @@ returns c =
     let s : List ℕ = c .before .before .args .s .now in
     let z : length s - length s ≡ 0 = omega arith in
     let e : drop (c .before .before .args .n) s ≡ [] = drop-of-length-le s {i = c .before .before .args .n} (omega arith) in
-    rw (z, e)
+    simp (z, e)
 
 returns-2 : tie.Need-returns-2
 returns-2 c = mid-tail (c .before .before .args .n) (c .before .before .args .s .now)
