@@ -1,4 +1,4 @@
--- The lengths of the buffers stay.
+-- The length of the buffer stays.
 use mathlib.Core.Path.{_≡_}
 use Prim.Native.Nat.{_-_}
 use lib.ListN.{length}
@@ -7,10 +7,10 @@ use Rattle.vectors.proofs.all_cases.Statement.{statement}
 use Rattle.vectors.proofs.all_cases.Tie as tie
 
 abbrev Inv-loop : tie.InvT-loop
-Inv-loop file data₀ buf₀ out₀ counts₀ run₀ counter₀ «data» buf out counts run counter = (length «data» ≡ length data₀) × (length buf ≡ length buf₀) × (length out ≡ length out₀)
+Inv-loop file buf₀ counts₀ run₀ counter₀ buf counts run counter = length buf ≡ length buf₀
 
 abbrev μ-loop : tie.MeasureT-loop
-μ-loop file data₀ buf₀ out₀ counts₀ run₀ counter₀ «data» buf out counts run counter = 524320 - counter
+μ-loop file buf₀ counts₀ run₀ counter₀ buf counts run counter = 524320 - counter
 
 pub all-cases-spec : {M : Type 1} → statement M
 all-cases-spec =
@@ -21,11 +21,10 @@ all-cases-spec =
     (λ c κs. search needs)
     (λ c. search needs)
     (λ c κs. search needs)
+    (λ c κs. search needs)
     (λ c. search needs)
     (λ c. search needs)
     (λ c. search needs)
     (λ c κs. search needs)
-    (λ c. search needs)
-    (λ c. search needs)
     (λ c. search needs)
     (λ c. search needs))

@@ -1,0 +1,70 @@
+// What the cases are calls on, and what the calls of the last case did.
+use ezpkt::SocketAddrV4;
+use ezpkt::build::Built;
+use ezpkt::icmp4::IcmpFlow;
+use packet::Packet;
+use tcp4::TcpFlow;
+
+// The flows and the packet, with the largest end of the packet. Of the last call: how many packets it
+// wrote, none where it was refused, and where the first, the second and the last of them end. Of all calls
+// of the case: how many bytes they wrote, their digest, and whether each wrote a packet and no byte behind
+// it. Then whether the case came out as in the Rust.
+pub(crate) struct Now {
+    pub(crate) icmp: IcmpFlow,
+    pub(crate) tcp: TcpFlow,
+    pub(crate) packet: Packet,
+    pub(crate) room: usize,
+    pub(crate) count: u8,
+    pub(crate) first: usize,
+    pub(crate) second: usize,
+    pub(crate) end: usize,
+    pub(crate) bytes: u32,
+    pub(crate) digest: u32,
+    pub(crate) kept: bool,
+    pub(crate) same: bool,
+}
+
+// Before the first case.
+pub(crate) fn start() -> Now {
+    let end = SocketAddrV4 { ip: 0, port: 0 };
+    Now {
+        icmp: IcmpFlow::new(0, 0),
+        tcp: TcpFlow::new(end, end, 0, 0),
+        packet: Packet {
+            headroom: 0,
+            end: 0,
+        },
+        room: 0,
+        count: 0,
+        first: 0,
+        second: 0,
+        end: 0,
+        bytes: 0,
+        digest: 0,
+        kept: true,
+        same: true,
+    }
+}
+
+// The case came out as in the Rust, or did not.
+pub(crate) fn told(now: Now, same: bool) -> Now {
+    let mut next = now;
+    next.same = same;
+    next
+}
+
+// The call wrote one packet of n bytes.
+pub(crate) fn wrote(now: Now, n: usize) -> Now {
+    let mut next = now;
+    next.count = 1;
+    next.end = n;
+    next
+}
+
+// The call wrote what it answered, or was refused: now has no packet yet.
+pub(crate) fn built(now: Now, built: Built) -> Now {
+    match built {
+        Built::Packet(n) => wrote(now, n),
+        Built::Refused(_) => now,
+    }
+}
