@@ -1,5 +1,5 @@
-/* Each call once or twice, on document 01's own examples where it has one: shows that wispbundle.h and the archive
- * agree on every struct and argument. Prints what differs, and "all as said" where nothing does.
+/* Every call of wispbundle.h, on document 01's own examples where it has one: shows that the header and the archive
+ * agree on structs and arguments. Prints what differs, and "all as said" where nothing does.
  *
  * cc -Iinclude examples/calls.c target/staticlib/libwispbundle.a -o calls   (on x86-64 Linux) */
 #include <stdio.h>

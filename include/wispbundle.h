@@ -8,9 +8,9 @@
  * written to (no const) overlaps no other bytes of the same call. Numbers in structs are plain: 10.0.0.1 is
  * 0x0a000001, and port 80 is 80. A bool is 0 or 1.
  *
- * Every call takes every input. Its answer has a status: 0 where the call was carried out, and else the number of
- * the refusal. A refused call leaves every buffer as it was, and all else in its answer is 0, but a flow or an
- * assembly is then the one that was handed in. So `flow = answer.flow` is always right.
+ * Every call takes every input. The answer of a call that can refuse has a status: 0 where the call was carried out,
+ * and else the number of the refusal. A refused call leaves every buffer as it was, and all else in its answer is 0,
+ * but a flow or an assembly that was handed in comes back as it was. So `flow = answer.flow` is always right.
  */
 #ifndef WISPBUNDLE_H
 #define WISPBUNDLE_H
@@ -66,11 +66,12 @@ typedef struct {
     uint16_t sum;
 } wb_sum;
 
-/* Refuses by 1. Bytes whose own checksum is among them have the checksum 0 if they verify. */
+/* Refuses by 1. Bytes whose own checksum is among them have the checksum 0 exactly if they verify. */
 wb_sum wb_ip_csum(const uint8_t *buf, size_t buf_len);
 
 /* ---- building a packet
- * Each writes a whole packet, IPv4 header first, to the start of out, and answers its length. Refuses by 1, 2, 3. */
+ * Each writes a whole packet, IPv4 header first, to the start of out, and answers its length. It refuses by 1, 3, and
+ * a piece by 1, 2, 3. */
 
 /* flags: FIN 0x01, SYN 0x02, RST 0x04, PSH 0x08, ACK 0x10. frag_off is the whole 16-bit field of the IPv4 header. */
 typedef struct {
@@ -84,7 +85,7 @@ typedef struct {
     uint16_t frag_off;
 } wb_tcp_segment;
 
-/* csum: whether the checksum is computed; else its field is 0. */
+/* frag_off: as above. csum: whether the checksum is computed; else its field is 0. */
 typedef struct {
     uint32_t saddr;
     uint32_t daddr;
@@ -129,16 +130,19 @@ wb_length wb_build_icmp(wb_icmp_packet echo, const uint8_t *payload, size_t payl
 wb_length wb_build_piece(wb_ip_piece piece, const uint8_t *payload, size_t payload_len, uint8_t *out, size_t out_len);
 
 /* ---- pieces of an IPv4 payload
- * A piece carries the payload's bytes from 8·off up to 8·(off + len), as far as they are there; MF is set exactly if
- * bytes follow. A piece past the payload's end is empty and has MF clear, so it claims a longer datagram: with the
- * payload's last piece it spoils an assembly. */
+ * A piece carries the payload's bytes from 8·off up to, not including, 8·(off + len), as far as they are there; MF is
+ * set exactly if bytes follow. A piece past the payload's end is empty and has MF clear, so it claims a longer
+ * datagram: with the payload's last piece it spoils an assembly. At the offsets 8,190 and 8,191 it ends above 65,515,
+ * so taking it is refused by 10, and it spoils nothing. Each call writes one packet to the start of out, and answers
+ * its length. It refuses by 1, 2, 3. */
 
+/* The same packet as wb_build_piece writes. */
 wb_length wb_fragment(wb_template template_, const uint8_t *payload, size_t payload_len, uint16_t off, uint16_t len,
                       uint8_t *out, size_t out_len);
 /* All from block off on. */
 wb_length wb_tail(wb_template template_, const uint8_t *payload, size_t payload_len, uint16_t off, uint8_t *out,
                   size_t out_len);
-/* The whole payload. */
+/* The whole payload, with offset 0 and MF clear. */
 wb_length wb_datagram(wb_template template_, const uint8_t *payload, size_t payload_len, uint8_t *out, size_t out_len);
 
 /* ---- TCP flows
@@ -195,7 +199,7 @@ wb_tcp_sent wb_tcp_server_message(wb_tcp_flow flow, const uint8_t *bytes, size_t
 wb_tcp_flow wb_tcp_client_hole(wb_tcp_flow flow, uint32_t bytes);
 wb_tcp_flow wb_tcp_server_hole(wb_tcp_flow flow, uint32_t bytes);
 
-/* A TCP header alone, with PSH, ACK and the checksum given, as if dlen bytes followed it. Never refused. */
+/* A TCP header alone, with PSH, ACK and the checksum given; the side's number moves on by dlen. Never refused. */
 typedef struct {
     wb_tcp_flow flow;
     uint8_t bytes[20];
@@ -229,7 +233,8 @@ typedef struct {
     wb_addr sv;
 } wb_udp_flow;
 
-/* The source address is srcip where other_source is true, and else the flow's. */
+/* The source address is srcip where other_source is true, and else the flow's. frag_off and csum are as in
+ * wb_udp_datagram. */
 typedef struct {
     bool other_source;
     uint32_t srcip;
@@ -277,8 +282,8 @@ typedef struct {
 wb_checked wb_check(const uint8_t *packet, size_t packet_len);
 
 /* ---- putting pieces together
- * An assembly is a record, a payload buffer of exactly 65,515 bytes and a map of exactly 1,024. The order of the
- * pieces does not show in what they end in, and repeats change nothing. */
+ * An assembly is a record, a payload buffer of exactly 65,515 bytes and a map of exactly 1,024. From an opened one, the
+ * same accepted pieces end in the same state, in any order and with any repeats. */
 
 enum { WB_PAYLOAD_BYTES = 65515, WB_MAP_BYTES = 1024 };
 
@@ -288,7 +293,8 @@ typedef struct {
     uint16_t id;
 } wb_key;
 
-/* Where known is false, total does not count. */
+/* total is how many bytes the datagram's IPv4 payload has; where known is false, it does not count. The total is at
+ * least floor. */
 typedef struct {
     wb_key key;
     bool known;
@@ -315,8 +321,9 @@ typedef struct {
 wb_opened wb_assembly_open(wb_key key, uint8_t *payload, size_t payload_len, uint8_t *map, size_t map_len);
 
 /* Takes the piece that a packet carries: its data goes to its place in payload, and its blocks are marked in map.
- * Complete: payload holds the datagram's IPv4 payload in its first total bytes. Spoilt: two pieces contradict each
- * other; both buffers are zero then, and stay so. Refuses by 11, 4, 5, 6, 4, 7, 8, 9, 10. */
+ * Waiting: bytes are missing still. Complete: payload holds the datagram's IPv4 payload in its first total bytes; a
+ * later piece may still spoil it. Spoilt: two pieces contradict each other. The piece that spoils zeroes both buffers;
+ * a record that is already spoilt, and its buffers, are left as they are. Refuses by 11, 4, 5, 6, 4, 7, 8, 9, 10. */
 wb_taken wb_assembly_take(wb_assembly before, const uint8_t *packet, size_t packet_len, uint8_t *payload,
                           size_t payload_len, uint8_t *map, size_t map_len);
 
@@ -336,7 +343,8 @@ typedef struct {
     size_t end;
 } wb_packet;
 
-/* Text, with no NUL behind it. Refuses by 16, 3. */
+/* Text, with no NUL behind it. Positions count from the start of buf. For a packet of n bytes: 14 characters and the
+ * decimal digits of n, 57 for each line of up to 16 bytes, and one for each byte. Refuses by 16, 3. */
 wb_length wb_hex_dump(wb_packet packet, const uint8_t *buf, size_t buf_len, uint8_t *out, size_t out_len);
 
 #ifdef __cplusplus

@@ -10,7 +10,7 @@ fn usual(processor: &str) -> (&'static str, &'static str) {
     if processor == "x86_64" {
         ("../target/staticlib", "rt staticlib wispbundle")
     } else {
-        ("../target/host", "../shared/tools/host-archive wispbundle")
+        ("../target/host", "rust/host-archive")
     }
 }
 

@@ -112,14 +112,18 @@ fn write_piece(payload: &[u8], off: u16, len: u16, out: &mut [u8]) -> usize {
     answer.length
 }
 
+/// Where a payload of `n` bytes is cut, at every `len` blocks.
+fn offsets(n: usize, len: u16) -> impl Iterator<Item = u16> {
+    (0..n.div_ceil(8) as u16).step_by(usize::from(len))
+}
+
 /// A payload of `n` bytes, cut at every `len` blocks.
 pub fn cut(n: usize, len: u16) -> Subject {
-    let offsets = move || (0..n.div_ceil(8) as u16).step_by(usize::from(len));
     let (payload, mut out) = (bytes(n), vec![0; ROOM]);
     let rust = IpFrag::new(header(), bytes(n));
     Subject {
         ours: calls(move || {
-            for off in offsets() {
+            for off in offsets(n, len) {
                 black_box(write_piece(
                     black_box(&payload),
                     off,
@@ -129,7 +133,7 @@ pub fn cut(n: usize, len: u16) -> Subject {
             }
         }),
         rust: Some(calls(move || {
-            for off in offsets() {
+            for off in offsets(n, len) {
                 drop(black_box(black_box(&rust).fragment(off, len, true)));
             }
         })),
@@ -144,18 +148,21 @@ struct Assembly {
 }
 
 impl Assembly {
-    fn open(&mut self) {
+    /// The payload and the map, each as a pointer and a count.
+    fn buffers(&mut self) -> (*mut u8, usize, *mut u8, usize) {
         let (payload, map) = (&mut self.payload, &mut self.map);
+        (
+            payload.as_mut_ptr(),
+            payload.len(),
+            map.as_mut_ptr(),
+            map.len(),
+        )
+    }
+
+    fn open(&mut self) {
+        let (key, (payload, bytes, map, marks)) = (self.record.key, self.buffers());
         // SAFETY: both pointers and counts are those of slices that are borrowed alone.
-        let answer = unsafe {
-            sys::wb_assembly_open(
-                self.record.key,
-                payload.as_mut_ptr(),
-                payload.len(),
-                map.as_mut_ptr(),
-                map.len(),
-            )
-        };
+        let answer = unsafe { sys::wb_assembly_open(key, payload, bytes, map, marks) };
         accepted(answer.status);
         self.record = answer.assembly;
     }
@@ -183,19 +190,11 @@ impl Assembly {
     }
 
     fn take(&mut self, packet: &[u8]) -> u8 {
-        let (payload, map) = (&mut self.payload, &mut self.map);
+        let (before, from, count) = (self.record, packet.as_ptr(), packet.len());
+        let (payload, bytes, map, marks) = self.buffers();
         // SAFETY: all pointers and counts are those of slices, and both buffers are borrowed alone.
-        let answer = unsafe {
-            sys::wb_assembly_take(
-                self.record,
-                packet.as_ptr(),
-                packet.len(),
-                payload.as_mut_ptr(),
-                payload.len(),
-                map.as_mut_ptr(),
-                map.len(),
-            )
-        };
+        let answer =
+            unsafe { sys::wb_assembly_take(before, from, count, payload, bytes, map, marks) };
         accepted(answer.status);
         self.record = answer.assembly;
         answer.outcome
@@ -228,8 +227,7 @@ fn pieces(n: usize, len: u16) -> Vec<Vec<u8>> {
         out.truncate(n);
         out
     };
-    let offsets = (0..n.div_ceil(8) as u16).step_by(usize::from(len));
-    offsets.map(piece).collect()
+    offsets(n, len).map(piece).collect()
 }
 
 /// What is taken, and whether into an assembly that has it already.

@@ -1,7 +1,13 @@
-//! Addresses of `std::net` as the numbers of the archive, and back.
+//! The ends of a flow, and addresses of `std::net` as the numbers of the archive and back.
 
 use crate::sys;
 use std::net::{Ipv4Addr, SocketAddrV4};
+
+/// Which end sends.
+pub(crate) enum Side {
+    Client,
+    Server,
+}
 
 pub(crate) fn raw(address: SocketAddrV4) -> sys::Addr {
     sys::Addr {

@@ -1,6 +1,7 @@
 //! Building one packet. Each call writes the whole packet, IPv4 header first, to the start of `out`
 //! and answers its length. It refuses by 1, 3.
 
+use crate::lend::lend;
 use crate::{Refusal, sys};
 use std::net::{Ipv4Addr, SocketAddrV4};
 
@@ -57,11 +58,7 @@ impl TcpSegment {
             flags: self.flags,
             frag_off: self.frag_off,
         };
-        let (from, count) = (payload.as_ptr(), payload.len());
-        // SAFETY: both pointers and counts are those of slices, and `out` is borrowed alone.
-        Refusal::or_length(unsafe {
-            sys::wb_build_tcp(segment, from, count, out.as_mut_ptr(), out.len())
-        })
+        Refusal::or_length(lend(sys::wb_build_tcp, segment, payload, out))
     }
 }
 
@@ -95,11 +92,7 @@ impl UdpDatagram {
             frag_off: self.frag_off,
             csum: self.csum,
         };
-        let (from, count) = (payload.as_ptr(), payload.len());
-        // SAFETY: both pointers and counts are those of slices, and `out` is borrowed alone.
-        Refusal::or_length(unsafe {
-            sys::wb_build_udp(datagram, from, count, out.as_mut_ptr(), out.len())
-        })
+        Refusal::or_length(lend(sys::wb_build_udp, datagram, payload, out))
     }
 }
 
@@ -129,10 +122,6 @@ impl IcmpPacket {
             reply: self.echo == Echo::Reply,
             seq: self.seq,
         };
-        let (from, count) = (payload.as_ptr(), payload.len());
-        // SAFETY: both pointers and counts are those of slices, and `out` is borrowed alone.
-        Refusal::or_length(unsafe {
-            sys::wb_build_icmp(echo, from, count, out.as_mut_ptr(), out.len())
-        })
+        Refusal::or_length(lend(sys::wb_build_icmp, echo, payload, out))
     }
 }

@@ -1,5 +1,6 @@
 //! The hex dump.
 
+use crate::lend::lend;
 use crate::{Refusal, sys};
 use std::ops::Range;
 
@@ -18,9 +19,5 @@ pub fn hex_dump(part: Range<usize>, buf: &[u8], out: &mut [u8]) -> Result<usize,
         headroom: part.start,
         end: part.end,
     };
-    let (from, count) = (buf.as_ptr(), buf.len());
-    // SAFETY: both pointers and counts are those of slices, and `out` is borrowed alone.
-    Refusal::or_length(unsafe {
-        sys::wb_hex_dump(packet, from, count, out.as_mut_ptr(), out.len())
-    })
+    Refusal::or_length(lend(sys::wb_hex_dump, packet, buf, out))
 }

@@ -1,5 +1,6 @@
 //! ICMP flows.
 
+use crate::lend::lend;
 use crate::{Refusal, sys};
 use std::net::Ipv4Addr;
 
@@ -54,17 +55,11 @@ impl IcmpFlow {
 
     /// An echo from the client.
     pub fn echo(&mut self, bytes: &[u8], out: &mut [u8]) -> Result<usize, Refusal> {
-        let (flow, from, count) = (self.raw(), bytes.as_ptr(), bytes.len());
-        // SAFETY: both pointers and counts are those of slices, and `out` is borrowed alone.
-        self.sent(unsafe { sys::wb_icmp_echo(flow, from, count, out.as_mut_ptr(), out.len()) })
+        self.sent(lend(sys::wb_icmp_echo, self.raw(), bytes, out))
     }
 
     /// A reply from the server.
     pub fn echo_reply(&mut self, bytes: &[u8], out: &mut [u8]) -> Result<usize, Refusal> {
-        let (flow, from, count) = (self.raw(), bytes.as_ptr(), bytes.len());
-        // SAFETY: both pointers and counts are those of slices, and `out` is borrowed alone.
-        self.sent(unsafe {
-            sys::wb_icmp_echo_reply(flow, from, count, out.as_mut_ptr(), out.len())
-        })
+        self.sent(lend(sys::wb_icmp_echo_reply, self.raw(), bytes, out))
     }
 }

@@ -43,6 +43,7 @@ mod check;
 mod csum;
 mod dump;
 mod icmp;
+mod lend;
 pub mod pcap;
 mod piece;
 mod refusal;

@@ -1,6 +1,7 @@
 //! Pieces of an IPv4 payload. A piece carries the payload's bytes from 8·off up to 8·(off + len), as
 //! far as they are there; MF is set exactly if bytes follow. Each call refuses by 1, 2, 3.
 
+use crate::lend::lend;
 use crate::{Refusal, sys};
 use std::net::Ipv4Addr;
 
@@ -90,11 +91,7 @@ impl Template {
 
     /// The whole payload, with offset 0 and MF clear.
     pub fn datagram(&self, payload: &[u8], out: &mut [u8]) -> Result<usize, Refusal> {
-        let (from, count) = (payload.as_ptr(), payload.len());
-        // SAFETY: both pointers and counts are those of slices, and `out` is borrowed alone.
-        Refusal::or_length(unsafe {
-            sys::wb_datagram(self.raw(), from, count, out.as_mut_ptr(), out.len())
-        })
+        Refusal::or_length(lend(sys::wb_datagram, self.raw(), payload, out))
     }
 }
 
@@ -114,10 +111,6 @@ impl Piece {
             off: self.off,
             len: self.len,
         };
-        let (from, count) = (payload.as_ptr(), payload.len());
-        // SAFETY: both pointers and counts are those of slices, and `out` is borrowed alone.
-        Refusal::or_length(unsafe {
-            sys::wb_build_piece(piece, from, count, out.as_mut_ptr(), out.len())
-        })
+        Refusal::or_length(lend(sys::wb_build_piece, piece, payload, out))
     }
 }

@@ -1,6 +1,7 @@
 //! TCP flows.
 
-use crate::address::{raw, socket};
+use crate::address::{Side, raw, socket};
+use crate::lend::{lend, lend_out};
 use crate::{Refusal, sys};
 use std::net::SocketAddrV4;
 
@@ -84,71 +85,81 @@ impl TcpFlow {
         self.sent(answer).map(|[end, _, _]| end)
     }
 
-    fn sent_message(&mut self, ack: bool, answer: sys::TcpSent) -> Result<Message, Refusal> {
+    fn message(
+        &mut self,
+        side: Side,
+        bytes: &[u8],
+        send_ack: bool,
+        frag_off: u16,
+        out: &mut [u8],
+    ) -> Result<Message, Refusal> {
+        let call = match side {
+            Side::Client => sys::wb_tcp_client_message,
+            Side::Server => sys::wb_tcp_server_message,
+        };
+        let (flow, from, count) = (self.raw(), bytes.as_ptr(), bytes.len());
+        let (to, room) = (out.as_mut_ptr(), out.len());
+        // SAFETY: both pointers and counts are those of slices, and `out` is borrowed alone.
+        let answer = unsafe { call(flow, from, count, send_ack, frag_off, to, room) };
         self.sent(answer).map(|[end, second, _]| Message {
             end,
-            ack_end: ack.then_some(second),
+            ack_end: send_ack.then_some(second),
         })
     }
 
     /// Three packets, 120 bytes: SYN, SYN and ACK, ACK.
     pub fn open(&mut self, out: &mut [u8]) -> Result<[usize; 3], Refusal> {
-        // SAFETY: the pointer and the count are those of a slice that is borrowed alone.
-        self.sent(unsafe { sys::wb_tcp_open(self.raw(), out.as_mut_ptr(), out.len()) })
+        self.sent(lend_out(sys::wb_tcp_open, self.raw(), out))
     }
 
     /// Three packets, 120 bytes: FIN and ACK from the client, FIN and ACK from the server, ACK.
     pub fn client_close(&mut self, out: &mut [u8]) -> Result<[usize; 3], Refusal> {
-        // SAFETY: the pointer and the count are those of a slice that is borrowed alone.
-        self.sent(unsafe { sys::wb_tcp_client_close(self.raw(), out.as_mut_ptr(), out.len()) })
+        self.sent(lend_out(sys::wb_tcp_client_close, self.raw(), out))
     }
 
     /// Three packets, 120 bytes: FIN and ACK from the server, FIN and ACK from the client, ACK.
     pub fn server_close(&mut self, out: &mut [u8]) -> Result<[usize; 3], Refusal> {
-        // SAFETY: the pointer and the count are those of a slice that is borrowed alone.
-        self.sent(unsafe { sys::wb_tcp_server_close(self.raw(), out.as_mut_ptr(), out.len()) })
+        self.sent(lend_out(sys::wb_tcp_server_close, self.raw(), out))
     }
 
     /// One packet: RST alone, acknowledgment number 0.
     pub fn client_reset(&mut self, out: &mut [u8]) -> Result<usize, Refusal> {
-        // SAFETY: the pointer and the count are those of a slice that is borrowed alone.
-        self.sent_one(unsafe { sys::wb_tcp_client_reset(self.raw(), out.as_mut_ptr(), out.len()) })
+        self.sent_one(lend_out(sys::wb_tcp_client_reset, self.raw(), out))
     }
 
     /// One packet: RST alone, acknowledgment number 0.
     pub fn server_reset(&mut self, out: &mut [u8]) -> Result<usize, Refusal> {
-        // SAFETY: the pointer and the count are those of a slice that is borrowed alone.
-        self.sent_one(unsafe { sys::wb_tcp_server_reset(self.raw(), out.as_mut_ptr(), out.len()) })
+        self.sent_one(lend_out(sys::wb_tcp_server_reset, self.raw(), out))
     }
 
     /// One packet: ACK.
     pub fn client_ack(&mut self, out: &mut [u8]) -> Result<usize, Refusal> {
-        // SAFETY: the pointer and the count are those of a slice that is borrowed alone.
-        self.sent_one(unsafe { sys::wb_tcp_client_ack(self.raw(), out.as_mut_ptr(), out.len()) })
+        self.sent_one(lend_out(sys::wb_tcp_client_ack, self.raw(), out))
     }
 
     /// One packet: ACK.
     pub fn server_ack(&mut self, out: &mut [u8]) -> Result<usize, Refusal> {
-        // SAFETY: the pointer and the count are those of a slice that is borrowed alone.
-        self.sent_one(unsafe { sys::wb_tcp_server_ack(self.raw(), out.as_mut_ptr(), out.len()) })
+        self.sent_one(lend_out(sys::wb_tcp_server_ack, self.raw(), out))
     }
 
     /// One packet with the bytes, PSH and ACK.
     pub fn client_data_segment(&mut self, bytes: &[u8], out: &mut [u8]) -> Result<usize, Refusal> {
-        let (flow, from, count) = (self.raw(), bytes.as_ptr(), bytes.len());
-        // SAFETY: both pointers and counts are those of slices, and `out` is borrowed alone.
-        self.sent_one(unsafe {
-            sys::wb_tcp_client_data_segment(flow, from, count, out.as_mut_ptr(), out.len())
-        })
+        self.sent_one(lend(
+            sys::wb_tcp_client_data_segment,
+            self.raw(),
+            bytes,
+            out,
+        ))
     }
 
     /// One packet with the bytes, PSH and ACK.
     pub fn server_data_segment(&mut self, bytes: &[u8], out: &mut [u8]) -> Result<usize, Refusal> {
-        let (flow, from, count) = (self.raw(), bytes.as_ptr(), bytes.len());
-        // SAFETY: both pointers and counts are those of slices, and `out` is borrowed alone.
-        self.sent_one(unsafe {
-            sys::wb_tcp_server_data_segment(flow, from, count, out.as_mut_ptr(), out.len())
-        })
+        self.sent_one(lend(
+            sys::wb_tcp_server_data_segment,
+            self.raw(),
+            bytes,
+            out,
+        ))
     }
 
     /// A data segment with `frag_off` as the IPv4 header's whole field, and behind it, where
@@ -160,12 +171,7 @@ impl TcpFlow {
         frag_off: u16,
         out: &mut [u8],
     ) -> Result<Message, Refusal> {
-        let (flow, from, count) = (self.raw(), bytes.as_ptr(), bytes.len());
-        let (to, room) = (out.as_mut_ptr(), out.len());
-        // SAFETY: both pointers and counts are those of slices, and `out` is borrowed alone.
-        self.sent_message(send_ack, unsafe {
-            sys::wb_tcp_client_message(flow, from, count, send_ack, frag_off, to, room)
-        })
+        self.message(Side::Client, bytes, send_ack, frag_off, out)
     }
 
     /// A data segment with `frag_off` as the IPv4 header's whole field, and behind it, where
@@ -177,12 +183,7 @@ impl TcpFlow {
         frag_off: u16,
         out: &mut [u8],
     ) -> Result<Message, Refusal> {
-        let (flow, from, count) = (self.raw(), bytes.as_ptr(), bytes.len());
-        let (to, room) = (out.as_mut_ptr(), out.len());
-        // SAFETY: both pointers and counts are those of slices, and `out` is borrowed alone.
-        self.sent_message(send_ack, unsafe {
-            sys::wb_tcp_server_message(flow, from, count, send_ack, frag_off, to, room)
-        })
+        self.message(Side::Server, bytes, send_ack, frag_off, out)
     }
 
     /// Moves the client's number on by so many bytes, with no packet.

@@ -1,6 +1,6 @@
 //! UDP flows.
 
-use crate::address::{raw, socket};
+use crate::address::{Side, raw, socket};
 use crate::{Refusal, sys};
 use std::net::{Ipv4Addr, SocketAddrV4};
 
@@ -59,6 +59,22 @@ impl UdpFlow {
         }
     }
 
+    fn dgram(
+        &self,
+        side: Side,
+        bytes: &[u8],
+        choices: Choices,
+        out: &mut [u8],
+    ) -> Result<usize, Refusal> {
+        let call = match side {
+            Side::Client => sys::wb_udp_client_dgram,
+            Side::Server => sys::wb_udp_server_dgram,
+        };
+        let (flow, from, count, given) = (self.raw(), bytes.as_ptr(), bytes.len(), choices.raw());
+        // SAFETY: both pointers and counts are those of slices, and `out` is borrowed alone.
+        Refusal::or_length(unsafe { call(flow, from, count, given, out.as_mut_ptr(), out.len()) })
+    }
+
     /// From the client to the server.
     pub fn client_dgram(
         &self,
@@ -66,11 +82,7 @@ impl UdpFlow {
         choices: Choices,
         out: &mut [u8],
     ) -> Result<usize, Refusal> {
-        let (flow, from, count, given) = (self.raw(), bytes.as_ptr(), bytes.len(), choices.raw());
-        // SAFETY: both pointers and counts are those of slices, and `out` is borrowed alone.
-        Refusal::or_length(unsafe {
-            sys::wb_udp_client_dgram(flow, from, count, given, out.as_mut_ptr(), out.len())
-        })
+        self.dgram(Side::Client, bytes, choices, out)
     }
 
     /// From the server to the client.
@@ -80,10 +92,6 @@ impl UdpFlow {
         choices: Choices,
         out: &mut [u8],
     ) -> Result<usize, Refusal> {
-        let (flow, from, count, given) = (self.raw(), bytes.as_ptr(), bytes.len(), choices.raw());
-        // SAFETY: both pointers and counts are those of slices, and `out` is borrowed alone.
-        Refusal::or_length(unsafe {
-            sys::wb_udp_server_dgram(flow, from, count, given, out.as_mut_ptr(), out.len())
-        })
+        self.dgram(Side::Server, bytes, choices, out)
     }
 }

@@ -33,43 +33,36 @@ fn bytes_behind_the_packet_do_not_count() {
 }
 
 #[test]
-fn each_refusal() {
+fn missing_bytes_a_bad_header_and_pieces() {
     let packet = udp(true);
     assert_eq!(check(&[]), Err(Refusal::Short));
     assert_eq!(check(&packet[..19]), Err(Refusal::Short));
     assert_eq!(check(&packet[..31]), Err(Refusal::Short));
-    assert_eq!(
-        check(&changed(packet.clone(), &[(0, 0x46)])),
-        Err(Refusal::NotIpv4)
-    );
-    assert_eq!(
-        check(&changed(packet.clone(), &[(3, 19)])),
-        Err(Refusal::BadTotal)
-    );
     let mut bad = packet.clone();
     bad[10] ^= 1;
     assert_eq!(check(&bad), Err(Refusal::BadHeader));
-    assert_eq!(
-        check(&changed(packet.clone(), &[(9, 2)])),
-        Err(Refusal::OtherProtocol)
-    );
     for field in [0x2000_u16, 1, 0x1fff] {
         let [high, low] = field.to_be_bytes();
         let piece = changed(packet.clone(), &[(6, high), (7, low)]);
         assert_eq!(check(&piece), Err(Refusal::Piece));
     }
-    assert_eq!(
-        check(&changed(packet.clone(), &[(3, 27)])),
-        Err(Refusal::Cut)
-    );
-    assert_eq!(
-        check(&changed(packet.clone(), &[(25, 13)])),
-        Err(Refusal::Cut)
-    );
-    assert_eq!(check(&changed(tcp(), &[(32, 0x60)])), Err(Refusal::Cut));
-    assert_eq!(check(&changed(tcp(), &[(3, 39)])), Err(Refusal::Cut));
-    assert_eq!(check(&changed(packet, &[(31, 0)])), Err(Refusal::BadSum));
-    assert_eq!(check(&changed(tcp(), &[(43, 0)])), Err(Refusal::BadSum));
+}
+
+#[test]
+fn one_changed_byte() {
+    for (packet, change, why) in [
+        (udp(true), (0, 0x46), Refusal::NotIpv4),
+        (udp(true), (3, 19), Refusal::BadTotal),
+        (udp(true), (9, 2), Refusal::OtherProtocol),
+        (udp(true), (3, 27), Refusal::Cut),
+        (udp(true), (25, 13), Refusal::Cut),
+        (tcp(), (32, 0x60), Refusal::Cut),
+        (tcp(), (3, 39), Refusal::Cut),
+        (udp(true), (31, 0), Refusal::BadSum),
+        (tcp(), (43, 0), Refusal::BadSum),
+    ] {
+        assert_eq!(check(&changed(packet, &[change])), Err(why), "{change:?}");
+    }
 }
 
 #[test]

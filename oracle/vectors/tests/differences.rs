@@ -184,6 +184,12 @@ fn an_end_too_large_is_taken_and_shown_with_six_digits() {
 }
 
 #[test]
+fn a_headroom_too_large_is_taken() {
+    let pkt = Packet::new(1_048_577, 0);
+    assert_eq!((pkt.headroom(), pkt.len()), (1_048_577, 0));
+}
+
+#[test]
 fn a_part_in_use_stops_a_push() {
     let pkt = Packet::new(0, 0);
     let held = part(0, 0).get(&pkt);

@@ -3,10 +3,8 @@
 use crate::run::{Compared, Run, expected};
 use pkt::Packet;
 use pkt::ipv4::{ip_csum_fold, ip_csum_partial, ip_hdr, ip_pseudo_hdr, proto, tcp_hdr};
+use vectors::{MAX_ICMP, MAX_TCP};
 use wispbundle::{Echo, IcmpPacket, TcpSegment};
-
-pub const MAX_TCP: usize = 65_495;
-pub const MAX_UDP: usize = 65_507;
 
 fn ip_header(segment: &TcpSegment, size: usize) -> ip_hdr {
     let mut h = ip_hdr::default();
@@ -58,12 +56,12 @@ pub fn tcp(run: &mut Run) -> Compared {
 
 /// The Rust has an echo only as the first of a flow, so the numbers of a request are tried in flows.
 pub fn icmp(run: &mut Run) -> Compared {
-    let size = run.rng.size(MAX_UDP);
+    let size = run.rng.size(MAX_ICMP);
     let payload = run.rng.bytes(size);
     let (cl, sv, reply) = (run.rng.addr(), run.rng.addr(), run.rng.flip());
     let mut flow = ezpkt::icmp4::IcmpFlow::new(cl, sv, true);
     let room = run.room(28 + size);
-    let rust = expected((size, MAX_UDP), 0, (room, 28 + size), || match reply {
+    let rust = expected((size, MAX_ICMP), 0, (room, 28 + size), || match reply {
         false => flow.echo(&payload).to_vec(),
         true => flow.echo_reply(&payload).to_vec(),
     });

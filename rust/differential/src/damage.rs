@@ -2,6 +2,7 @@
 
 use crate::pieces;
 use crate::rng::Rng;
+use vectors::MAX_TCP;
 use wispbundle::{Choices, IcmpFlow, TcpFlow, UdpFlow};
 
 fn be16(bytes: &mut [u8], at: usize, number: u16) {
@@ -19,7 +20,7 @@ pub fn mend(packet: &mut [u8]) {
 
 /// A packet of any kind as it is built.
 pub fn built(rng: &mut Rng) -> Vec<u8> {
-    let size = rng.size(65_495).min(65_495);
+    let size = rng.size(MAX_TCP).min(MAX_TCP);
     let payload = rng.bytes(size);
     let mut out = vec![0; 40 + size];
     let (cl, sv) = (rng.socket(), rng.socket());

@@ -1,7 +1,7 @@
 //! ICMP flows beside the Rust's.
 
-use crate::building::MAX_UDP;
 use crate::run::{Compared, Run, expected};
+use vectors::MAX_ICMP;
 use wispbundle::IcmpFlow;
 
 /// Two flows at the same numbers. The Rust's can only be counted up, so most start at 0, and some just
@@ -21,10 +21,10 @@ fn draw(run: &mut Run) -> (IcmpFlow, ezpkt::icmp4::IcmpFlow) {
 pub fn compare(run: &mut Run) -> Compared {
     let (mut ours, mut rust) = draw(run);
     for _ in 0..1 + run.rng.below(8) {
-        let size = run.rng.size(MAX_UDP);
+        let size = run.rng.size(MAX_ICMP);
         let payload = run.rng.bytes(size);
         let (room, reply, mut after) = (run.room(28 + size), run.rng.flip(), ours);
-        let packet = expected((size, MAX_UDP), 0, (room, 28 + size), || match reply {
+        let packet = expected((size, MAX_ICMP), 0, (room, 28 + size), || match reply {
             false => {
                 after.ping_seq = after.ping_seq.wrapping_add(1);
                 rust.echo(&payload).to_vec()

@@ -4,9 +4,8 @@ use crate::rng::Rng;
 use crate::run::{Compared, Run, expected};
 use ezpkt::ip4::IpFrag;
 use pkt::ipv4::ip_hdr;
+use vectors::MAX_IPV4;
 use wispbundle::{Piece, Template};
-
-pub const MAX_IPV4: usize = 65_515;
 
 pub fn draw(rng: &mut Rng) -> Template {
     Template {

@@ -1,8 +1,8 @@
 //! TCP flows beside the Rust's, several calls on each.
 
-use crate::building::MAX_TCP;
 use crate::run::{Compared, Run, expected};
 use pkt::Packet;
+use vectors::MAX_TCP;
 use wispbundle::{Refusal, TcpFlow};
 
 struct Pair {

@@ -1,9 +1,9 @@
 //! UDP datagrams, as a flow's and as a request, beside the Rust's flow.
 
-use crate::building::MAX_UDP;
 use crate::run::{Compared, Run, expected};
 use pkt::Packet;
 use std::net::SocketAddrV4;
+use vectors::MAX_UDP;
 use wispbundle::{Choices, UdpDatagram, UdpFlow};
 
 fn rust_dgram(flow: &UdpFlow, server: bool, payload: &[u8], choices: Choices) -> Vec<u8> {

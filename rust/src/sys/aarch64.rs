@@ -8,80 +8,73 @@ use std::mem::MaybeUninit;
 /// Eight bytes of a struct, of which some may belong to no field.
 pub type Word = MaybeUninit<u64>;
 
-/// A struct, and the words that it lies in.
 #[repr(C)]
-pub union Laid<T: Copy, const N: usize> {
-    pub value: T,
-    pub words: [Word; N],
+union Laid<T: Copy, const N: usize> {
+    value: T,
+    words: [Word; N],
 }
 
-impl<T: Copy, const N: usize> Laid<T, N> {
-    pub fn words(value: T) -> [Word; N] {
-        const { assert!(size_of::<T>() <= 8 * N && size_of::<T>() > 8 * (N - 1)) };
-        // SAFETY: a word may hold any bytes, also ones that nothing was written to.
-        unsafe { Self { value }.words }
-    }
+/// The words that a struct lies in.
+pub fn words<T: Copy, const N: usize>(value: T) -> [Word; N] {
+    const { assert!(size_of::<T>() <= 8 * N && size_of::<T>() > 8 * (N - 1)) };
+    // SAFETY: a word may hold any bytes, also ones that nothing was written to.
+    unsafe { Laid { value }.words }
 }
 
-macro_rules! larger {
-    ($($kind:ident fn $name:ident($($inner:tt)+) -> $answer:ty $([$($unused:ident)+])?;)+) => {
-        $(larger_one! { $kind $name ($($inner)+) $answer [$($($unused)+)?] })+
-    };
+/// The answer that `call` writes through the pointer.
+///
+/// # Safety
+/// It writes the whole answer.
+pub unsafe fn written<T>(call: impl FnOnce(*mut T) -> *mut T) -> T {
+    let mut answer = MaybeUninit::uninit();
+    call(answer.as_mut_ptr());
+    // SAFETY: the call has written the whole answer.
+    unsafe { answer.assume_init() }
 }
 
-macro_rules! larger_one {
-    (answer $name:ident($($arg:ident: $type:ty),+) $answer:ty []) => {
-        /// # Safety
-        /// As the module says.
-        pub unsafe fn $name($($arg: $type),+) -> $answer {
-            unsafe extern "C" {
-                fn $name(answer: *mut $answer, $($arg: $type),+) -> *mut $answer;
-            }
-            let mut answer = std::mem::MaybeUninit::uninit();
-            // SAFETY: the function writes the whole answer; the rest is the caller's to see to.
-            unsafe {
-                $name(answer.as_mut_ptr(), $($arg),+);
-                answer.assume_init()
-            }
+// Each larger form is a function around another of the same name: around one that takes the struct's
+// words, or around one that takes a pointer to the answer.
+macro_rules! function {
+    (small $name:ident($($arg:ident: $type:ty),+) $answer:ty) => {
+        unsafe extern "C" {
+            pub fn $name($($arg: $type),+) -> $answer;
         }
     };
     (argument $name:ident(
-        $large:ident: $struct:ty [$($word:ident)+], $($arg:ident: $type:ty),+
-    ) $answer:ty [$($unused:ident)+]) => {
+        $large:ident: $struct:ty [$($word:ident)+], $($arg:ident: $type:ty),+; $($unused:ident)+
+    ) $answer:ty) => {
         /// # Safety
         /// As the module says.
-        pub unsafe fn $name($large: $struct, $($arg: $type),+) -> $answer {
-            unsafe extern "C" {
-                fn $name(
-                    $($arg: $type,)+ $($unused: u64,)+ $($word: aarch64::Word),+
-                ) -> $answer;
-            }
-            let [$($word),+] = aarch64::Laid::words($large);
+        pub unsafe extern "C" fn $name($large: $struct, $($arg: $type),+) -> $answer {
+            function! { small $name(
+                $($arg: $type,)+ $($unused: u64,)+ $($word: aarch64::Word),+
+            ) $answer }
+            let [$($word),+] = aarch64::words($large);
             $(let $unused = 0;)+
             // SAFETY: the words are the struct's; the rest is the caller's to see to.
             unsafe { $name($($arg,)+ $($unused,)+ $($word),+) }
         }
     };
-    (both $name:ident(
-        $large:ident: $struct:ty [$($word:ident)+], $($arg:ident: $type:ty),+
-    ) $answer:ty [$($unused:ident)+]) => {
+    (answer $name:ident($($arg:ident: $type:ty),+) $answer:ty) => {
         /// # Safety
         /// As the module says.
-        pub unsafe fn $name($large: $struct, $($arg: $type),+) -> $answer {
-            unsafe extern "C" {
-                fn $name(
-                    answer: *mut $answer, $($arg: $type,)+ $($unused: u64,)+ $($word: aarch64::Word),+
-                ) -> *mut $answer;
-            }
-            let [$($word),+] = aarch64::Laid::words($large);
-            $(let $unused = 0;)+
-            let mut answer = std::mem::MaybeUninit::uninit();
-            // SAFETY: the function writes the whole answer, and the words are the struct's; the rest
-            // is the caller's to see to.
-            unsafe {
-                $name(answer.as_mut_ptr(), $($arg,)+ $($unused,)+ $($word),+);
-                answer.assume_init()
-            }
+        pub unsafe extern "C" fn $name($($arg: $type),+) -> $answer {
+            function! { small $name(to: *mut $answer, $($arg: $type),+) *mut $answer }
+            // SAFETY: the function writes the whole answer; the rest is the caller's to see to.
+            unsafe { aarch64::written(|to| $name(to, $($arg),+)) }
+        }
+    };
+    (both $name:ident(
+        $large:ident: $struct:ty [$($word:ident)+], $($arg:ident: $type:ty),+; $($unused:ident)+
+    ) $answer:ty) => {
+        /// # Safety
+        /// As the module says.
+        pub unsafe extern "C" fn $name($large: $struct, $($arg: $type),+) -> $answer {
+            function! { argument $name(
+                $large: $struct [$($word)+], to: *mut $answer, $($arg: $type),+; $($unused)+
+            ) *mut $answer }
+            // SAFETY: the function writes the whole answer; the rest is the caller's to see to.
+            unsafe { aarch64::written(|to| $name($large, to, $($arg),+)) }
         }
     };
 }
