@@ -58,7 +58,7 @@ impl TcpSegment {
             flags: self.flags,
             frag_off: self.frag_off,
         };
-        Refusal::or_length(lend(sys::wb_build_tcp, segment, payload, out))
+        Refusal::or_length(lend!(wb_build_tcp, segment, payload, out))
     }
 }
 
@@ -92,7 +92,7 @@ impl UdpDatagram {
             frag_off: self.frag_off,
             csum: self.csum,
         };
-        Refusal::or_length(lend(sys::wb_build_udp, datagram, payload, out))
+        Refusal::or_length(lend!(wb_build_udp, datagram, payload, out))
     }
 }
 
@@ -122,6 +122,6 @@ impl IcmpPacket {
             reply: self.echo == Echo::Reply,
             seq: self.seq,
         };
-        Refusal::or_length(lend(sys::wb_build_icmp, echo, payload, out))
+        Refusal::or_length(lend!(wb_build_icmp, echo, payload, out))
     }
 }

@@ -19,5 +19,5 @@ pub fn hex_dump(part: Range<usize>, buf: &[u8], out: &mut [u8]) -> Result<usize,
         headroom: part.start,
         end: part.end,
     };
-    Refusal::or_length(lend(sys::wb_hex_dump, packet, buf, out))
+    Refusal::or_length(lend!(wb_hex_dump, packet, buf, out))
 }

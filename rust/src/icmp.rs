@@ -55,11 +55,11 @@ impl IcmpFlow {
 
     /// An echo from the client.
     pub fn echo(&mut self, bytes: &[u8], out: &mut [u8]) -> Result<usize, Refusal> {
-        self.sent(lend(sys::wb_icmp_echo, self.raw(), bytes, out))
+        self.sent(lend!(wb_icmp_echo, self.raw(), bytes, out))
     }
 
     /// A reply from the server.
     pub fn echo_reply(&mut self, bytes: &[u8], out: &mut [u8]) -> Result<usize, Refusal> {
-        self.sent(lend(sys::wb_icmp_echo_reply, self.raw(), bytes, out))
+        self.sent(lend!(wb_icmp_echo_reply, self.raw(), bytes, out))
     }
 }

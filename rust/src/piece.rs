@@ -91,7 +91,7 @@ impl Template {
 
     /// The whole payload, with offset 0 and MF clear.
     pub fn datagram(&self, payload: &[u8], out: &mut [u8]) -> Result<usize, Refusal> {
-        Refusal::or_length(lend(sys::wb_datagram, self.raw(), payload, out))
+        Refusal::or_length(lend!(wb_datagram, self.raw(), payload, out))
     }
 }
 
@@ -111,6 +111,6 @@ impl Piece {
             off: self.off,
             len: self.len,
         };
-        Refusal::or_length(lend(sys::wb_build_piece, piece, payload, out))
+        Refusal::or_length(lend!(wb_build_piece, piece, payload, out))
     }
 }

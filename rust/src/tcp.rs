@@ -109,57 +109,47 @@ impl TcpFlow {
 
     /// Three packets, 120 bytes: SYN, SYN and ACK, ACK.
     pub fn open(&mut self, out: &mut [u8]) -> Result<[usize; 3], Refusal> {
-        self.sent(lend_out(sys::wb_tcp_open, self.raw(), out))
+        self.sent(lend_out!(wb_tcp_open, self.raw(), out))
     }
 
     /// Three packets, 120 bytes: FIN and ACK from the client, FIN and ACK from the server, ACK.
     pub fn client_close(&mut self, out: &mut [u8]) -> Result<[usize; 3], Refusal> {
-        self.sent(lend_out(sys::wb_tcp_client_close, self.raw(), out))
+        self.sent(lend_out!(wb_tcp_client_close, self.raw(), out))
     }
 
     /// Three packets, 120 bytes: FIN and ACK from the server, FIN and ACK from the client, ACK.
     pub fn server_close(&mut self, out: &mut [u8]) -> Result<[usize; 3], Refusal> {
-        self.sent(lend_out(sys::wb_tcp_server_close, self.raw(), out))
+        self.sent(lend_out!(wb_tcp_server_close, self.raw(), out))
     }
 
     /// One packet: RST alone, acknowledgment number 0.
     pub fn client_reset(&mut self, out: &mut [u8]) -> Result<usize, Refusal> {
-        self.sent_one(lend_out(sys::wb_tcp_client_reset, self.raw(), out))
+        self.sent_one(lend_out!(wb_tcp_client_reset, self.raw(), out))
     }
 
     /// One packet: RST alone, acknowledgment number 0.
     pub fn server_reset(&mut self, out: &mut [u8]) -> Result<usize, Refusal> {
-        self.sent_one(lend_out(sys::wb_tcp_server_reset, self.raw(), out))
+        self.sent_one(lend_out!(wb_tcp_server_reset, self.raw(), out))
     }
 
     /// One packet: ACK.
     pub fn client_ack(&mut self, out: &mut [u8]) -> Result<usize, Refusal> {
-        self.sent_one(lend_out(sys::wb_tcp_client_ack, self.raw(), out))
+        self.sent_one(lend_out!(wb_tcp_client_ack, self.raw(), out))
     }
 
     /// One packet: ACK.
     pub fn server_ack(&mut self, out: &mut [u8]) -> Result<usize, Refusal> {
-        self.sent_one(lend_out(sys::wb_tcp_server_ack, self.raw(), out))
+        self.sent_one(lend_out!(wb_tcp_server_ack, self.raw(), out))
     }
 
     /// One packet with the bytes, PSH and ACK.
     pub fn client_data_segment(&mut self, bytes: &[u8], out: &mut [u8]) -> Result<usize, Refusal> {
-        self.sent_one(lend(
-            sys::wb_tcp_client_data_segment,
-            self.raw(),
-            bytes,
-            out,
-        ))
+        self.sent_one(lend!(wb_tcp_client_data_segment, self.raw(), bytes, out))
     }
 
     /// One packet with the bytes, PSH and ACK.
     pub fn server_data_segment(&mut self, bytes: &[u8], out: &mut [u8]) -> Result<usize, Refusal> {
-        self.sent_one(lend(
-            sys::wb_tcp_server_data_segment,
-            self.raw(),
-            bytes,
-            out,
-        ))
+        self.sent_one(lend!(wb_tcp_server_data_segment, self.raw(), bytes, out))
     }
 
     /// A data segment with `frag_off` as the IPv4 header's whole field, and behind it, where
