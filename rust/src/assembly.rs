@@ -35,7 +35,8 @@ pub enum Outcome {
     Waiting,
     /// The whole IPv4 payload is held.
     Complete,
-    /// Two pieces contradict each other. Both buffers are zero, and stay so.
+    /// Two pieces contradict each other. The piece that spoils zeroes both buffers; a spoilt record and
+    /// its buffers are then left as they are.
     Spoilt,
 }
 
@@ -89,8 +90,8 @@ impl Outcome {
     }
 }
 
-/// One datagram in progress, over two borrowed buffers of [`PAYLOAD_BYTES`] and [`MAP_BYTES`]. The
-/// order of the pieces does not show in what they end in, and repeats change nothing.
+/// One datagram in progress, over two borrowed buffers of [`PAYLOAD_BYTES`] and [`MAP_BYTES`]. From an
+/// opened one, the same accepted pieces end in the same state, in any order and with any repeats.
 ///
 /// ```
 /// use wispbundle::{Assembly, Key, Outcome, Template};

@@ -1,4 +1,5 @@
--- Build, cut, assemble, check: the pieces assemble to the payload, and behind a header that names its protocol and addresses it is good.
+-- Build, cut, assemble, check: the pieces assemble to the payload, and behind a header that names its protocol and addresses it is
+-- checked as it deserves.
 use mathlib.Core.Path.{_≡_, refl, sym, ap, subst, _∙_}
 use mathlib.Core.Bool.{Bool, true, false, not, _||_, cond}
 use mathlib.Core.List.{List, _++_}
@@ -94,7 +95,7 @@ datagram-checked t d o b n fits few x =
     ∙ pick-no _ _ (ap (λ (e : Bool). not e || not (eqb 0 0)) (eq-eqb _ _ all))
 
 -- Demand 3 over the calls that build, cut, assemble and check: what is put together again is the IPv4 payload of the packet that was built,
--- and the datagram that is built of it is good.
+-- and the datagram that is built of it is checked as it deserves.
 pub round-trip : (t : Template) (q : Request) (v : Verdict) (p o b : List ℕ) (n : ℕ) → Fitting t → Owed t q v → Bytes p → Answered q p o (Packet n) b
     → RoundTrip t v (payloadIn n b)
 round-trip t q v p o b n fits c bp x =

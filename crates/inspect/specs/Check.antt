@@ -60,7 +60,7 @@ verdictOf Udp h d = unlessBad (verifiesBehindPseudo h 17 d)
 verdictOf Bare h d = gives noChecksum
 verdictOf Icmp h d = unlessBad (verifies d)
 
--- The same of any data part: 1, "above 65,515 (IPv4 payload)", comes first.
+-- The same of any data part: 1, "payload above .. 65,515 (IPv4 payload)", comes first.
 abbrev pub sumsAnswer : Kind → IpRead → List ℕ → Answer Verdict
 sumsAnswer k h d = cond (ltb 65515 (length d)) (refused 1) (verdictOf k h d)
 

@@ -23,7 +23,7 @@ lengthField l = fieldAt l 2 2
 abbrev pub hasBit : ℕ → ℕ → Bool
 hasBit n x = eqb (x / n % 2) 1
 
--- 3.1, in the figure's order; "0x8000 is reserved, 0x4000 DF, 0x2000 MF, and the low 13 bits are the offset". The data part runs from
+-- 3.1, in the figure's order; "0x8000 is reserved .., 0x4000 DF, 0x2000 MF, and the low 13 bits are the offset ..". The data part runs from
 -- the header's end to the total length.
 unfoldable pub headerOf : List ℕ → IpRead
 headerOf l =

@@ -4,11 +4,11 @@ use mathlib.Core.Bool.{cond}
 use mathlib.Core.List.{List, [], _∷_}
 use lib.ListN.{length}
 use lib.Dec.{ltb}
-use Rattle.pkt.specs.Answers.{Answer, refused, fitting}
+use Rattle.pkt.specs.Answers.{Answer}
 use Rattle.pcap.specs.Answers.{Wrote}
 use Rattle.pcap.specs.Pcap.{captureBytes}
 use Rattle.pcap.specs.declared.Captured.{Captured}
-use Rattle.ezpkt.specs.Build.{packetOf}
+use Rattle.ezpkt.specs.Build.{packetOf, sizedAnswer}
 use Rattle.ezpkt.specs.Icmp4.{newFlow, pingOf}
 
 -- "the first echo of a flow from 10.0.0.1 to 10.0.0.2"
@@ -21,7 +21,7 @@ fileOf d = captureBytes (record { sec = 0; usec = 0; packet = d } ∷ [])
 
 -- Document 01, "building 1, 2, 3": the answer for a payload of n bytes and an output of room bytes. An echo carries at most 65,507 bytes.
 abbrev pub captureAnswer : ℕ → ℕ → Answer ℕ
-captureAnswer n room = cond (ltb 65507 n) (refused 1) (fitting (68 + n) room)
+captureAnswer n room = sizedAnswer 65507 68 n room
 
 -- "reads at most 4,096 bytes of standard input (more: it writes nothing)": how many bytes of the output are written for n bytes of input
 abbrev pub sizeFor : ℕ → ℕ

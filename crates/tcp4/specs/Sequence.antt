@@ -100,7 +100,7 @@ abbrev pub Below : Seq → Type 0
 Below (Is n) = n < 4294967296
 Below Nothing = Unit {0}
 
--- what a call sets for a side is, and what each of several calls sets
+-- what a call sets for a side is below 2^32; and so for each of several calls
 abbrev pub SetsBelow : Side → Call → Type 0
 SetsBelow w (sends es room) = Unit {0}
 SetsBelow w (hole s n) = Unit {0}

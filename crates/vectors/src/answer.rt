@@ -18,7 +18,8 @@ pub(crate) const MARK: u8 = 0xa5;
 // The digest of nothing.
 pub(crate) const EMPTY: u32 = 2166136261;
 
-// How much of all bytes is lent to a call that should write n. The file has no packet above 1,048,576 bytes.
+// How much of all bytes is lent to a call that should write n, or to a packet whose largest end is n. The
+// file has none above 1,048,576.
 pub(crate) fn lent(n: usize, all: usize) -> usize
     ensures { λ r. ⌜ r ≤ all ⌝ }
 {

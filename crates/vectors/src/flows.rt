@@ -117,8 +117,8 @@ fn has_state(kind: u8, a: &[u8], at: usize, before: Now, now: Now) -> bool {
     let e = back(a, at);
     match kind / 16 {
         1 | 2 => a.len() == at,
-        3 => icmp::has_state(e, before.icmp, now.icmp),
-        _ => tcp::has_state(e, before.tcp, now.tcp),
+        3 => before.icmp_open & icmp::has_state(e, before.icmp, now.icmp),
+        _ => before.tcp_open & tcp::has_state(e, before.tcp, now.tcp),
     }
 }
 

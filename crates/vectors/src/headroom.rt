@@ -1,7 +1,7 @@
 // Kinds 60 to 6f: packets with headroom.
 //
 // The buffer that is lent is as long as the largest end that the packet reaches, and MARGIN more. All
-// of it is MARK when the packet is made. After every case all bytes before the end are compared, by
+// of it is MARK before the packet is made. After every case all bytes before the end are compared, by
 // their digest, and every byte from the end on is still MARK.
 use crate::answer;
 use crate::fields;
@@ -75,8 +75,8 @@ fn part(e: &[u8]) -> PktSlice {
     }
 }
 
-// Whether the part of n bytes is the one that e tells: its offset, and its length where more follows than
-// the record.
+// Whether the part of n bytes is the one that e tells: its offset, and its length unless e is only an offset
+// and the record, 16 bytes.
 fn is_part(s: PktSlice, n: usize, e: &[u8]) -> bool {
     let len = (e.len() == 16) | (fields::size(e, 4) == n);
     (s.off == fields::size(e, 0)) & (s.len == n) & len
@@ -111,7 +111,7 @@ fn opened(now: Now, b: &[u8], buf: &mut [u8]) -> Now {
 }
 
 // Kinds 67, 6c and 6f.
-fn kept(now: Now, kind: u8, b: &[u8], buf: &[u8]) -> Now {
+fn unwritten(now: Now, kind: u8, b: &[u8], buf: &[u8]) -> Now {
     let p = now.packet;
     match kind {
         0x67 => made(now, p.return_headroom(part(b), buf)),
@@ -182,11 +182,11 @@ fn with_payload(now: Now, kind: u8, b: &[u8], buf: &mut [u8]) -> Now {
 }
 
 // Kinds that copy nothing out; the record is not yet compared.
-fn changed(now: Now, kind: u8, b: &[u8], buf: &mut [u8]) -> Now {
+fn without_copy(now: Now, kind: u8, b: &[u8], buf: &mut [u8]) -> Now {
     match kind {
         0x60 => opened(now, b, buf),
         0x61 | 0x64 | 0x65 => with_size(now, kind, b, buf),
-        0x67 | 0x6c | 0x6f => kept(now, kind, b, buf),
+        0x67 | 0x6c | 0x6f => unwritten(now, kind, b, buf),
         _ => with_payload(now, kind, b, buf),
     }
 }
@@ -237,7 +237,7 @@ fn within(now: Now, kind: u8, b: &[u8], buf: &mut [u8]) -> Now {
     if place::form(kind) == b'1' {
         return read(now, kind, b, e, buf);
     }
-    recorded(changed(now, kind, b, buf), e, buf)
+    recorded(without_copy(now, kind, b, buf), e, buf)
 }
 
 // The largest end of the packet: that of a new one is in the case, and not above 1,048,576. The one before

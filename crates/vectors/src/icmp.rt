@@ -27,6 +27,7 @@ pub(crate) fn opened(now: Now, a: &[u8]) -> Now {
     };
     let mut next = now;
     next.icmp = flow;
+    next.icmp_open = true;
     next.same = has_state(back(a, 8), asked, flow);
     next
 }

@@ -36,7 +36,7 @@ fn say_word(words: &[u8], k: u8) {
     say(&word[0..n]);
 }
 
-// The kind's number in hex, and its name. There are sixteen names to a row.
+// The kind's number in hex, and its name: sixteen names for each first digit, those of 4 and 6 on two lines.
 pub(crate) fn say_kind(kind: u8) {
     io::print_hex(STDOUT_FILENO, kind as u64, 2);
     say(b" ");

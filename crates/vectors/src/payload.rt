@@ -77,10 +77,13 @@ fn put(b: &[u8], out: &mut [u8]) {
 }
 
 // Writes the payload of a body at the start of data, as far as it has room, and answers how many bytes that
-// are.
+// are: none, where the kind has no payload.
 pub(crate) fn make(kind: u8, b: &[u8], data: &mut [u8]) -> usize
     ensures { λ r. ⌜ r ≤ length (now («data» .exit)) ⌝ }
 {
+    if !place::has_payload(kind) {
+        return 0;
+    }
     let p = described(kind, b);
     let n = fields::least(fields::size(p, 2), data.len());
     put(p, &mut data[0..n]);

@@ -27,8 +27,9 @@ pub(crate) fn before_payload(kind: u8) -> usize {
     }
 }
 
-// What the calls of a kind write: 1 where it is one packet, or one text, 3 where it is one to three
-// packets, and n where the call is made many times.
+// What the calls of a kind write into a lent buffer: 1 where it is one packet, a part of one or a dump, 3
+// where it is one to three packets, n where the call is made many times, and - where it is nothing. The
+// headers of kinds 49 and 4a come back by value.
 pub(crate) fn form(kind: u8) -> u8 {
     let table = b"\
 ----------------\
@@ -41,8 +42,9 @@ pub(crate) fn form(kind: u8) -> u8 {
     fields::byte(table, kind as usize)
 }
 
-// How many bytes stand before the answer, or the record where there is none; behind the payload, if there
-// is one.
+// How many bytes stand before what was written, or before the record in kinds 60 to 6f that copy nothing
+// out; behind the payload, if there is one. 0 for kinds 01 to 05, 30, 40 to 44, 49 and 4a, whose functions
+// know their places.
 pub(crate) fn skip(kind: u8) -> usize
     ensures { λ r. ⌜ r ≤ 255 ⌝ }
 {

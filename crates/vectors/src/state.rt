@@ -5,13 +5,15 @@ use ezpkt::icmp4::IcmpFlow;
 use packet::Packet;
 use tcp4::TcpFlow;
 
-// The flows and the packet, with the largest end of the packet. Of the last call: how many packets it
-// wrote, none where it was refused, and where the first, the second and the last of them end. Of all calls
-// of the case: how many bytes they wrote, their digest, and whether each wrote a packet and no byte behind
-// it. Then whether the case came out as in the Rust.
+// The flows, and whether a case has opened each; the packet, with its largest end. Of the last call: how many
+// packets it wrote, none where it was refused, and where the last of them ends; where the first and the
+// second end, if it is a TCP flow's. Of all calls of the case: how many bytes they wrote, their digest, and
+// whether each wrote a packet and no byte behind it. Then whether the case came out as in the Rust.
 pub(crate) struct Now {
     pub(crate) icmp: IcmpFlow,
+    pub(crate) icmp_open: bool,
     pub(crate) tcp: TcpFlow,
+    pub(crate) tcp_open: bool,
     pub(crate) packet: Packet,
     pub(crate) room: usize,
     pub(crate) count: u8,
@@ -24,14 +26,16 @@ pub(crate) struct Now {
     pub(crate) same: bool,
 }
 
-// Before the first case.
+// Before the first case: no flow is open, and every call on the packet is refused.
 pub(crate) fn start() -> Now {
     let end = SocketAddrV4 { ip: 0, port: 0 };
     Now {
         icmp: IcmpFlow::new(0, 0),
+        icmp_open: false,
         tcp: TcpFlow::new(end, end, 0, 0),
+        tcp_open: false,
         packet: Packet {
-            headroom: 0,
+            headroom: 1,
             end: 0,
         },
         room: 0,

@@ -26,12 +26,12 @@ pub(crate) fn has_state(e: &[u8], before: TcpFlow, flow: TcpFlow) -> bool {
     (e.len() == 8) & cl & sv & has_ends(before, flow)
 }
 
-// The flow afterwards, if it has the numbers that e tells and what was answered is the same.
+// The flow afterwards, and whether it has the numbers that e tells and what was answered is the same.
 fn stepped(now: Now, flow: TcpFlow, e: &[u8], same: bool) -> Now {
     let before = now.tcp;
     let mut next = now;
     next.tcp = flow;
-    next.same = same & has_state(e, before, flow);
+    next.same = same & now.tcp_open & has_state(e, before, flow);
     next
 }
 
@@ -48,6 +48,7 @@ fn opened(now: Now, a: &[u8]) -> Now {
     };
     let mut asked = now;
     asked.tcp = ends;
+    asked.tcp_open = true;
     stepped(asked, flow, back(a, 20), true)
 }
 
@@ -90,7 +91,7 @@ fn set(now: Now, kind: u8, a: &[u8]) -> Now {
     pushed(now, flow.push_state(cl, sv), e, right)
 }
 
-// The flow after kind 41, if the old numbers are those that e tells.
+// The flow after kind 41, and whether the old numbers are those that e tells.
 fn pushed(now: Now, got: Pushed, e: &[u8], right: bool) -> Now {
     let flow = got.flow;
     let cl = got.cl;
@@ -130,33 +131,25 @@ pub(crate) fn unsent(now: Now, kind: u8, a: &[u8]) -> Now {
     }
 }
 
-// The flow and the packets after a call that was not refused.
-pub(crate) fn wrote(now: Now, sent: Sent) -> Now {
+// So many packets were written, and the flow moved on.
+fn packets(now: Now, flow: TcpFlow, count: u8, first: usize, second: usize, end: usize) -> Now {
     let mut next = now;
-    match sent {
-        Sent::One(flow, a) => {
-            next.tcp = flow;
-            next.count = 1;
-            next.first = a;
-            next.end = a;
-        }
-        Sent::Two(flow, a, b) => {
-            next.tcp = flow;
-            next.count = 2;
-            next.first = a;
-            next.second = b;
-            next.end = b;
-        }
-        Sent::Three(flow, a, b, c) => {
-            next.tcp = flow;
-            next.count = 3;
-            next.first = a;
-            next.second = b;
-            next.end = c;
-        }
-        Sent::Refused(_) => {}
-    }
+    next.tcp = flow;
+    next.count = count;
+    next.first = first;
+    next.second = second;
+    next.end = end;
     next
+}
+
+// The flow and the packets after a call; as they were, where it was refused.
+pub(crate) fn wrote(now: Now, sent: Sent) -> Now {
+    match sent {
+        Sent::One(flow, a) => packets(now, flow, 1, a, a, a),
+        Sent::Two(flow, a, b) => packets(now, flow, 2, a, b, b),
+        Sent::Three(flow, a, b, c) => packets(now, flow, 3, a, b, c),
+        Sent::Refused(_) => now,
+    }
 }
 
 // Kinds 45 and 46.
@@ -167,7 +160,7 @@ fn segment(kind: u8, flow: TcpFlow, bytes: &[u8], out: &mut [u8]) -> Sent {
     flow.server_data_segment(bytes, out)
 }
 
-// Kinds 47 to 4f.
+// Kinds 47, 48 and 4b to 4f.
 fn empty(kind: u8, flow: TcpFlow, out: &mut [u8]) -> Sent {
     match kind {
         0x47 => flow.client_ack(out),
@@ -180,7 +173,7 @@ fn empty(kind: u8, flow: TcpFlow, out: &mut [u8]) -> Sent {
     }
 }
 
-// Kinds 50 to 53, with a yes or a no behind the payload.
+// Kinds 50 to 53, with a yes or a no behind the payload. What is neither is told as a refusal, of no number.
 fn message(kind: u8, flow: TcpFlow, b: &[u8], bytes: &[u8], frag_off: u16, out: &mut [u8]) -> Sent {
     let ack = fields::byte(payload::behind(kind, b), 0);
     if ack > 1 {

@@ -1,5 +1,5 @@
 -- What each answer is to C. The status is 0 where the call was carried out, and else the refusal's number in document 01; on a refusal
--- all else is 0, but a flow or an assembly is the one that was handed in.
+-- all else is 0, but a flow or an assembly that was handed in comes back as it was.
 use Prim.Native.Nat.{ℕ}
 use mathlib.Core.Bool.{Bool, true, false, cond}
 use lib.ListN.{getD}
