@@ -107,7 +107,7 @@ agree a b (after-more mp mq le) = omega (arith, a .last mp, b .more mq)
 pub parts-agree : (d : List ℕ) (ps : List Piece) → ((p : Piece) → List·Memᴰ p ps → Part d p) → Contradictory ps → ⊥
 parts-agree d ps parts c = agree (part-of (parts (c .one) (c .one-in))) (part-of (parts (c .other) (c .other-in))) (c .clash)
 
-mem-length : {p : Piece} {ps : List Piece} → List·Memᴰ p ps → 0 < length ps
+pub mem-length : {p : Piece} {ps : List Piece} → List·Memᴰ p ps → 0 < length ps
 mem-length {p} {ps = []} m = absurd (List·Memᴰ·not-nil m)
 mem-length {p} {ps = q ∷ ps} m = omega arith
 

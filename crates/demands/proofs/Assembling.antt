@@ -2,7 +2,7 @@
 use mathlib.Core.Path.{_≡_, refl, sym, ap, subst, _∙_}
 use mathlib.Core.Logic.{_↔_}
 use mathlib.Core.Bool.{Bool, true, false, not}
-use mathlib.Core.List.{List, [], _∷_, _++_, append-assoc, append-nil, List·Memᴰ, List·Memᴰ·head, List·Memᴰ·not-nil, Memᴰ·append-left}
+use mathlib.Core.List.{List, [], _∷_, _++_, append-assoc, append-nil, List·Memᴰ, List·Memᴰ·head, Memᴰ·append-left}
 use Prim.Native.Nat.{ℕ, _+_, _-_, _*_, _≤_, _<_, min}
 use native.Mathlib.Omega.{arith}
 use lib.ListN.{length, take, length-append}
@@ -27,7 +27,7 @@ use Rattle.assembly.specs.Cut.{cut, Part, Covers}
 use Rattle.assembly.specs.Carried.{pieceOf, pieceAnswer}
 use Rattle.assembly.specs.Calls.{capacity, mapBytes}
 use Rattle.assembly.specs.Demand as demand
-use Rattle.assembly.proofs.Parts.{cut-whole, cut-past, part-acceptable}
+use Rattle.assembly.proofs.Parts.{cut-whole, cut-past, part-acceptable, mem-length}
 use Rattle.assembly.proofs.Carrying.{accepted}
 use Rattle.assembly.proofs.Assembles.{assembles-here}
 use Rattle.assembly.proofs.Calls.{shown-yes}
@@ -161,10 +161,6 @@ module _ (t : Template) (d : List ℕ) (fits : Fitting t) (few : length d ≤ ca
         go (l ∷ ms) a h =
             let (off, len, y) = a l (List·Memᴰ·head refl) in
             mem-length (piece-in capacity (keyOf t) (l ∷ ms) l (cut d off len) (record { handed = List·Memᴰ·head refl; carries = asked-carries l off len y }))
-          where
-            mem-length : {p : Piece} {qs : List Piece} → List·Memᴰ p qs → 0 < length qs
-            mem-length {p} {qs = []} m = absurd (List·Memᴰ·not-nil m)
-            mem-length {p} {qs = q ∷ qs} m = omega arith
 
     some-packet : 0 < length ps → 0 < length ls
     unfolding ps piecesOf

@@ -28,7 +28,7 @@ use Rattle.tcp4.specs.declared.Side.the-variants.{Client, Server}
 use Rattle.inspect.specs.Header.{fieldAt}
 use Rattle.inspect.specs.Check.{checkAnswer}
 use Rattle.demands.specs.Ranges.{Between, InRange}
-use Rattle.demands.specs.Outputs.{Stands, requestOf, EndToEnd, none, next, Sendable, BuiltGood}
+use Rattle.demands.specs.Outputs.{Stands, requestOf, EndToEnd, none, next, Sendable, BuiltAsOwed}
 use Rattle.demands.proofs.Checked.{packet-checked}
 
 -- ---- one packet
@@ -107,8 +107,8 @@ echo-given f g (gives m) n e = let z : icmp.gone g n ≡ icmp.gone f m = cc in a
 echo-given f g (refused m) n e = let z : _≡_ {A = ℕ} 0 1 = cc in absurd (omega arith)
 
 -- Demand 2: "headers, lengths and checksums": each call leaves packets of the lengths that it answers, and these are checked as they are owed.
-pub built-good : BuiltGood
-built-good =
+pub built-as-owed : BuiltAsOwed
+built-as-owed =
     record {
       building = λ q p o b n range bp x. first q p o b n range bp (sym (x .answer)) (x .after);
       echoing = λ e f g p o b n range bp x. first (Echo e) p o b n range bp (echo-given f g _ n (x .answer)) (x .after);

@@ -44,7 +44,7 @@ abbrev pub Sendable : List Emit → Type 0
 Sendable es = (e : Emit) → List·Memᴰ e es → (e .frag < 65536) × Bytes (e .body)
 
 -- Each call that was not refused.
-pub record BuiltGood : Type 0 where
+pub record BuiltAsOwed : Type 0 where
   -- `build`, `fragment`, `tail`, `datagram`, `client_dgram`, `server_dgram`
   pub building : (q : Request) (p o b : List ℕ) (n : ℕ) → InRange q → Bytes p → Answered q p o (built.Packet n) b → Stands q p b 0 n
   -- `echo`, `echo_reply`

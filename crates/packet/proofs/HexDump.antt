@@ -143,9 +143,6 @@ placed-behind a b o n h = rw (← h, take-append-seam, drop-append-add, drop-dro
 
 -- ---- the whole
 
-title-length : length title ≡ 14
-title-length = refl
-
 -- The length of a dump, known without writing it.
 pub dump-length : (pos : ℕ) (l : List ℕ) → length (dumpBytes pos l) ≡ digitsOf (length l) + 14 + 57 * ((length l + 15) / 16) + length l
 unfolding dumpBytes decimal

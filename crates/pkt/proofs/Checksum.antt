@@ -101,19 +101,6 @@ total-append [] b h = omega arith
 total-append (x ∷ []) b h = omega arith
 total-append (x ∷ y ∷ a) b h = omega (arith, total-append a b (even-less (length a) h))
 
--- The one's complement sum of two parts is that of their sums.
-pub sum-append : (a b : List ℕ) → Bytes a → Bytes b → Bytes (a ++ b) → length a % 2 ≡ 0
-    → sum (words (a ++ b)) ≡ plus (sum (words a)) (sum (words b))
-sum-append a b ha hb hab e =
-    let s : total a + total b ≡ total b + total a = omega arith in
-    let t : canon (total a) + total b ≡ total b + canon (total a) = omega arith in
-    sum-total (a ++ b) hab
-    ∙ ap canon (total-append a b e ∙ s)
-    ∙ sym (canon-add (total b) (total a))
-    ∙ ap canon (sym t)
-    ∙ sym (plus-canon (canon (total a)) (total b) (canon-most (total a)))
-    ∙ sym (rw (sum-total a ha, sum-total b hb))
-
 -- What is left to 65535 makes a sum whole.
 pub canon-whole : (n : ℕ) → canon (n + (65535 - canon n)) ≡ 65535
 unfolding canon
