@@ -14,7 +14,8 @@ static uint8_t pieces[PIECES][20 + 8 * BLOCKS];
 static size_t lengths[PIECES];
 static uint8_t payload[WB_PAYLOAD_BYTES], map[WB_MAP_BYTES];
 
-static const wb_template car = {.id = 7, .ttl = 64, .protocol = 17, .saddr = 0x0a000001, .daddr = 0x0a000002};
+static const wb_template car = {
+    .id = 7, .ttl = 64, .protocol = WB_PROTOCOL_UDP, .saddr = 0x0a000001, .daddr = 0x0a000002};
 
 static void accept(const char *what, uint8_t status)
 {
@@ -46,7 +47,7 @@ static void cut(void)
 static size_t put_together(void)
 {
     static const int order[PIECES] = {2, 0, 1};
-    static const char *const says[] = {"refused", "waiting", "complete", "spoilt"};
+    static const char *const says[] = {[WB_WAITING] = "waiting", [WB_COMPLETE] = "complete", [WB_SPOILT] = "spoilt"};
     wb_key key = {.saddr = car.saddr, .daddr = car.daddr, .id = car.id};
     wb_opened opened = wb_assembly_open(key, payload, sizeof payload, map, sizeof map);
     accept("open", opened.status);
@@ -77,6 +78,10 @@ static void check(size_t total)
 
 int main(void)
 {
+    if (wb_version() != WB_VERSION) {
+        fprintf(stderr, "the header is not that of the archive\n");
+        return 1;
+    }
     build();
     cut();
     check(put_together());

@@ -51,7 +51,9 @@ pub fn tcp(run: &mut Run) -> Compared {
     let rust = expected((size, MAX_TCP), 0, (room, 40 + size), || {
         rust_tcp(&segment, &payload)
     });
-    run.writes_one("build tcp", room, rust, |out| segment.build(&payload, out))
+    run.writes_one("wb_build_tcp", room, rust, |out| {
+        segment.build(&payload, out)
+    })
 }
 
 /// The Rust has an echo only as the first of a flow, so the numbers of a request are tried in flows.
@@ -75,5 +77,7 @@ pub fn icmp(run: &mut Run) -> Compared {
         echo,
         seq: 0,
     };
-    run.writes_one("build icmp", room, rust, |out| packet.build(&payload, out))
+    run.writes_one("wb_build_icmp", room, rust, |out| {
+        packet.build(&payload, out)
+    })
 }

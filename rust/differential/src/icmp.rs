@@ -6,20 +6,28 @@ use wispbundle::IcmpFlow;
 
 /// Two flows at the same numbers. The Rust's can only be counted up, so most start at 0, and some just
 /// below 65,536.
-fn draw(run: &mut Run) -> (IcmpFlow, ezpkt::icmp4::IcmpFlow) {
-    let mut ours = IcmpFlow::new(run.rng.addr(), run.rng.addr());
-    let mut rust = ezpkt::icmp4::IcmpFlow::new(ours.cl, ours.sv, true);
+fn draw(run: &mut Run) -> Result<(IcmpFlow, ezpkt::icmp4::IcmpFlow), String> {
+    let (cl, sv) = (run.rng.addr(), run.rng.addr());
+    let mut ours = IcmpFlow::new(cl, sv);
+    let given = IcmpFlow {
+        cl,
+        sv,
+        ping_seq: 0,
+        pong_seq: 0,
+    };
+    run.same("wb_icmp_new", Ok(ours), Ok(given))?;
+    let mut rust = ezpkt::icmp4::IcmpFlow::new(cl, sv, true);
     if run.rng.once_in(1000) {
         ours.ping_seq = 65_534;
         ours.pong_seq = 65_535;
         (0..ours.ping_seq).for_each(|_| drop(rust.echo(&[])));
         (0..ours.pong_seq).for_each(|_| drop(rust.echo_reply(&[])));
     }
-    (ours, rust)
+    Ok((ours, rust))
 }
 
 pub fn compare(run: &mut Run) -> Compared {
-    let (mut ours, mut rust) = draw(run);
+    let (mut ours, mut rust) = draw(run)?;
     for _ in 0..1 + run.rng.below(8) {
         let size = run.rng.size(MAX_ICMP);
         let payload = run.rng.bytes(size);
@@ -35,8 +43,10 @@ pub fn compare(run: &mut Run) -> Compared {
             }
         });
         match reply {
-            false => run.writes_one("icmp echo", room, packet, |out| ours.echo(&payload, out))?,
-            true => run.writes_one("icmp echo_reply", room, packet, |out| {
+            false => {
+                run.writes_one("wb_icmp_echo", room, packet, |out| ours.echo(&payload, out))?
+            }
+            true => run.writes_one("wb_icmp_echo_reply", room, packet, |out| {
                 ours.echo_reply(&payload, out)
             })?,
         }

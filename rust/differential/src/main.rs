@@ -1,8 +1,9 @@
 //! Random calls of the crate beside the same calls of resynth's Rust, or beside a model of document
 //! 01 where the Rust has none: every answer, every state and every byte, those behind a packet too.
 //!
-//! differential [SEED [CALLS]] makes at least so many calls, and differential SEED case NUMBER makes
-//! one case again.
+//! The archive's version is compared first. differential [SEED [CALLS]] makes at least so many calls,
+//! and fails also if it has not seen all that `seen` names. differential SEED case NUMBER makes one
+//! case again.
 
 mod building;
 mod checking;
@@ -13,6 +14,7 @@ mod pieces;
 mod records;
 mod rng;
 mod run;
+mod seen;
 mod sums;
 mod taking;
 mod tcp;
@@ -23,6 +25,8 @@ use rng::Rng;
 use run::{Compared, Run};
 use std::process::ExitCode;
 use std::time::Instant;
+use wispbundle::sys::VERSION;
+use wispbundle::version;
 
 const SEED: u64 = 0x7769_7370;
 const CALLS: u64 = 1_000_000;
@@ -61,11 +65,11 @@ fn one(run: &mut Run, seed: u64, case: u64) -> Compared {
 }
 
 fn report(run: &Run, start: Instant) {
-    for (what, count) in run.calls.iter().chain(&run.seen) {
-        println!("{count:9}  {what}");
+    for (call, count) in &run.calls {
+        println!("{count:9}  {}", seen::words(call));
     }
-    for (number, count) in run.refusals.iter().enumerate().filter(|(_, n)| **n > 0) {
-        println!("{count:9}  refused by {number}");
+    for (what, count) in &run.seen {
+        println!("{count:9}  {what}");
     }
     println!("{} seconds", start.elapsed().as_secs());
 }
@@ -80,8 +84,12 @@ fn number(words: &[String], at: usize, usual: u64) -> u64 {
 fn main() -> ExitCode {
     let words: Vec<String> = std::env::args().skip(1).collect();
     let (mut run, start, seed) = (Run::new(), Instant::now(), number(&words, 0, SEED));
+    if let Err(what) = run.same("wb_version", Ok(version()), Ok(VERSION)) {
+        println!("{what}");
+        return ExitCode::FAILURE;
+    }
     let again = words.get(1).is_some_and(|word| word == "case");
-    let calls = if again { 1 } else { number(&words, 1, CALLS) };
+    let calls = if again { 2 } else { number(&words, 1, CALLS) };
     let mut case = if again { number(&words, 2, 0) } else { 0 };
     while run.count() < calls {
         if let Err(what) = one(&mut run, seed, case) {
@@ -95,5 +103,15 @@ fn main() -> ExitCode {
         "{} calls, 0 differ (seed {seed}, {case} cases)",
         run.count()
     );
-    ExitCode::SUCCESS
+    let faults = match again {
+        true => Vec::new(),
+        false => seen::faults(&run),
+    };
+    for fault in &faults {
+        println!("{fault}");
+    }
+    match faults.is_empty() {
+        true => ExitCode::SUCCESS,
+        false => ExitCode::FAILURE,
+    }
 }

@@ -1,7 +1,7 @@
 //! Document 01's check and assembly, written anew and in another way: bytes and whole pieces, no
 //! blocks tested and no floor.
 
-use wispbundle::{Good, Key, MAP_BYTES, Outcome, PAYLOAD_BYTES, Record, Refusal};
+use wispbundle::{Good, Key, MAP_BYTES, Outcome, PAYLOAD_BYTES, Progress, Record, Refusal};
 
 fn be16(bytes: &[u8], at: usize) -> usize {
     usize::from(bytes[at]) << 8 | usize::from(bytes[at + 1])
@@ -105,6 +105,15 @@ impl Piece {
     }
 }
 
+/// What taking a piece answers, where the assembly then stands so.
+pub fn outcome(progress: Progress) -> Outcome {
+    match progress {
+        Progress::Waiting => Outcome::Waiting,
+        Progress::Complete(_) => Outcome::Complete,
+        Progress::Spoilt => Outcome::Spoilt,
+    }
+}
+
 /// An assembly as the list of the pieces that it accepted.
 pub struct Assembly {
     key: Key,
@@ -137,10 +146,7 @@ impl Assembly {
     }
 
     /// Whether the pieces leave no gap below the total.
-    fn is_complete(&self) -> bool {
-        let Some(total) = self.record().total else {
-            return false;
-        };
+    fn covers(&self, total: usize) -> bool {
         let mut spans: Vec<_> = self.pieces.iter().map(|p| (p.start, p.end())).collect();
         spans.sort();
         let reach = |held, (start, end): (usize, usize)| match start <= held {
@@ -148,6 +154,14 @@ impl Assembly {
             false => held,
         };
         spans.into_iter().fold(0, reach) >= total
+    }
+
+    pub fn progress(&self) -> Progress {
+        match self.record().total {
+            _ if self.spoilt => Progress::Spoilt,
+            Some(total) if self.covers(total) => Progress::Complete(total),
+            _ => Progress::Waiting,
+        }
     }
 
     fn spoil(&mut self) {
@@ -174,10 +188,6 @@ impl Assembly {
                 false => self.keep(piece),
             }
         }
-        Ok(match () {
-            _ if self.spoilt => Outcome::Spoilt,
-            _ if self.is_complete() => Outcome::Complete,
-            _ => Outcome::Waiting,
-        })
+        Ok(outcome(self.progress()))
     }
 }

@@ -64,12 +64,16 @@ pub fn compare(run: &mut Run) -> Compared {
     let rust = expected((size, MAX_IPV4), off, (room, packet.len()), || packet);
     let piece = Piece { template, off, len };
     match kind {
-        0 => run.writes_one("fragment", room, rust, |out| {
+        0 => run.writes_one("wb_fragment", room, rust, |out| {
             template.fragment(&payload, off, len, out)
         }),
-        1 => run.writes_one("build piece", room, rust, |out| piece.build(&payload, out)),
-        2 => run.writes_one("tail", room, rust, |out| template.tail(&payload, off, out)),
-        _ => run.writes_one("datagram", room, rust, |out| {
+        1 => run.writes_one("wb_build_piece", room, rust, |out| {
+            piece.build(&payload, out)
+        }),
+        2 => run.writes_one("wb_tail", room, rust, |out| {
+            template.tail(&payload, off, out)
+        }),
+        _ => run.writes_one("wb_datagram", room, rust, |out| {
             template.datagram(&payload, out)
         }),
     }

@@ -1,10 +1,10 @@
 //! Taking a piece into any record and any buffers, also ones that no pieces lead to: document 01's
 //! rule for the marks, the total and the floor, byte by byte.
 
-use crate::model::Piece;
+use crate::model::{Piece, outcome};
 use crate::run::{Compared, Run};
 use crate::{pieces, taking};
-use wispbundle::{Assembly, Key, MAP_BYTES, Outcome, PAYLOAD_BYTES, Record, Refusal};
+use wispbundle::{Assembly, Key, MAP_BYTES, Outcome, PAYLOAD_BYTES, Progress, Record, Refusal};
 
 struct State {
     record: Record,
@@ -54,16 +54,19 @@ impl State {
     fn take(&mut self, packet: &[u8]) -> Result<Outcome, Refusal> {
         let piece = Piece::read(self.record.key, packet)?;
         match self.record.spoilt {
-            true => return Ok(Outcome::Spoilt),
+            true => {}
             false if self.contradicts(&piece) => self.spoil(),
             false => self.keep(&piece),
         }
-        let total = self.record.total;
-        Ok(match total {
-            _ if self.record.spoilt => Outcome::Spoilt,
-            Some(total) if (0..total).all(|byte| self.is_marked(byte)) => Outcome::Complete,
-            _ => Outcome::Waiting,
-        })
+        Ok(outcome(self.progress()))
+    }
+
+    fn progress(&self) -> Progress {
+        match self.record.total {
+            _ if self.record.spoilt => Progress::Spoilt,
+            Some(total) if (0..total).all(|byte| self.is_marked(byte)) => Progress::Complete(total),
+            _ => Progress::Waiting,
+        }
     }
 }
 
@@ -99,13 +102,13 @@ pub fn compare(run: &mut Run) -> Compared {
     let mut model = draw(run, taking::key(&template), size);
     let (mut held, mut map) = (model.payload.clone(), model.map.clone());
     let mut ours = Assembly::resume(model.record, &mut held, &mut map);
+    taking::same_progress(run, &ours, model.progress())?;
     for _ in 0..1 + run.rng.below(3) {
         let len = 1 + run.rng.below(40) as u16;
         let packet = taking::packet(&mut run.rng, &template, &payload, len, true);
-        let outcome = ours.take(&packet);
-        run.same("assembly take", outcome, model.take(&packet))?;
-        run.saw(taking::name(outcome));
+        taking::same(run, ours.take(&packet), model.take(&packet))?;
         taking::same_state(&ours, model.record, &model.payload, &model.map)?;
+        taking::same_progress(run, &ours, model.progress())?;
     }
     Ok(())
 }

@@ -45,10 +45,10 @@ impl Rng {
     pub fn size(&mut self, limit: usize) -> usize {
         match self.below(500) {
             0 => limit - self.below(4),
-            1 => limit + 1 + self.below(4),
-            2 => self.below(limit + 1),
-            3..=20 => self.below(4000),
-            21..=99 => self.below(400),
+            1..=5 => limit + 1 + self.below(4),
+            6 => self.below(limit + 1),
+            7..=24 => self.below(4000),
+            25..=99 => self.below(400),
             _ => self.below(48),
         }
     }

@@ -10,8 +10,9 @@ pub type Compared = Result<(), String>;
 
 pub struct Run {
     pub rng: Rng,
-    pub calls: BTreeMap<&'static str, u64>,
-    pub refusals: [u64; 18],
+    /// How often a call, by its name in the header, gave a status: 0, or the number of a refusal.
+    pub calls: BTreeMap<(&'static str, u8), u64>,
+    /// How often an answer was given that has a line of its own.
     pub seen: BTreeMap<&'static str, u64>,
 }
 
@@ -25,7 +26,6 @@ impl Run {
         Self {
             rng: Rng::of_case(0, 0),
             calls: BTreeMap::new(),
-            refusals: [0; 18],
             seen: BTreeMap::new(),
         }
     }
@@ -39,26 +39,28 @@ impl Run {
         *self.seen.entry(what).or_default() += 1;
     }
 
+    fn called(&mut self, name: &'static str, status: u8) {
+        *self.calls.entry((name, status)).or_default() += 1;
+    }
+
     /// Counts a call that answers nothing; what it changed is compared elsewhere.
-    pub fn made(&mut self, kind: &'static str) -> Compared {
-        *self.calls.entry(kind).or_default() += 1;
+    pub fn made(&mut self, name: &'static str) -> Compared {
+        self.called(name, 0);
         Ok(())
     }
 
     /// Counts a call, and compares what it answered.
     pub fn same<T: PartialEq + Debug>(
         &mut self,
-        kind: &'static str,
+        name: &'static str,
         got: Result<T, Refusal>,
         expected: Result<T, Refusal>,
     ) -> Compared {
-        self.made(kind)?;
-        if let Err(refusal) = got {
-            self.refusals[usize::from(refusal.number())] += 1;
-        }
+        let status = got.as_ref().map_or_else(|refusal| refusal.number(), |_| 0);
+        self.called(name, status);
         match got == expected {
             true => Ok(()),
-            false => Err(format!("{kind}: {got:?} and not {expected:?}")),
+            false => Err(format!("{name}: {got:?} and not {expected:?}")),
         }
     }
 
@@ -76,7 +78,7 @@ impl Run {
     /// byte of them, and the bytes behind, which keep the pattern; all of them do on a refusal.
     pub fn writes<const N: usize>(
         &mut self,
-        kind: &'static str,
+        name: &'static str,
         room: usize,
         expected: Result<[Vec<u8>; N], Refusal>,
         call: impl FnOnce(&mut [u8]) -> Result<[usize; N], Refusal>,
@@ -91,14 +93,14 @@ impl Run {
                 end
             })
         });
-        self.same(kind, got, ends)?;
+        self.same(name, got, ends)?;
         if out[..packets.len()] != packets {
-            return Err(format!("{kind}: other bytes in a packet"));
+            return Err(format!("{name}: other bytes in a packet"));
         }
         match (packets.len()..room).find(|&at| out[at] != pattern(at)) {
             None => Ok(()),
             Some(at) => Err(format!(
-                "{kind}: byte {at} behind the packet was written to"
+                "{name}: byte {at} behind the packet was written to"
             )),
         }
     }
@@ -106,12 +108,12 @@ impl Run {
     /// The same for one packet.
     pub fn writes_one(
         &mut self,
-        kind: &'static str,
+        name: &'static str,
         room: usize,
         expected: Result<Vec<u8>, Refusal>,
         call: impl FnOnce(&mut [u8]) -> Result<usize, Refusal>,
     ) -> Compared {
-        self.writes(kind, room, expected.map(|p| [p]), |out| {
+        self.writes(name, room, expected.map(|p| [p]), |out| {
             call(out).map(|n| [n])
         })
     }

@@ -10,5 +10,5 @@ pub fn compare(run: &mut Run) -> Compared {
         ..=65_535 => Ok(pkt::ipv4::ip_csum(&bytes)),
         _ => Err(Refusal::TooLong),
     };
-    run.same("ip_csum", ip_csum(&bytes), rust)
+    run.same("wb_ip_csum", ip_csum(&bytes), rust)
 }

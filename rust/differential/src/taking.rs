@@ -3,7 +3,9 @@
 use crate::rng::Rng;
 use crate::run::{Compared, Run};
 use crate::{damage, model, pieces};
-use wispbundle::{Assembly, Key, MAP_BYTES, Outcome, PAYLOAD_BYTES, Record, Refusal, Template};
+use wispbundle::{
+    Assembly, Key, MAP_BYTES, Outcome, PAYLOAD_BYTES, Progress, Record, Refusal, Template,
+};
 
 /// One piece of the payload, mostly one of the cuts at every `len` blocks.
 fn piece(rng: &mut Rng, template: &Template, payload: &[u8], len: u16) -> Vec<u8> {
@@ -43,13 +45,19 @@ pub fn key(template: &Template) -> Key {
     }
 }
 
-pub fn name(outcome: Result<Outcome, Refusal>) -> &'static str {
-    match outcome {
-        Ok(Outcome::Waiting) => "taken: waiting",
-        Ok(Outcome::Complete) => "taken: complete",
-        Ok(Outcome::Spoilt) => "taken: spoilt",
-        Err(_) => "taken: refused",
+/// Compares what taking a piece answered.
+pub fn same(
+    run: &mut Run,
+    got: Result<Outcome, Refusal>,
+    expected: Result<Outcome, Refusal>,
+) -> Compared {
+    match got {
+        Ok(Outcome::Waiting) => run.saw("taken: waiting"),
+        Ok(Outcome::Complete) => run.saw("taken: complete"),
+        Ok(Outcome::Spoilt) => run.saw("taken: spoilt"),
+        Err(_) => {}
     }
+    run.same("wb_assembly_take", got, expected)
 }
 
 /// Compares the answer, the record and every byte of both buffers, a refusal's too.
@@ -62,18 +70,18 @@ pub fn compare(run: &mut Run) -> Compared {
     let (mut held, mut map) = (vec![0xa5; PAYLOAD_BYTES], vec![0x5a; MAP_BYTES]);
     let opened = Assembly::open(key(&template), &mut held, &mut map);
     run.same(
-        "assembly open",
+        "wb_assembly_open",
         opened.as_ref().map_err(|e| *e).map(|a| a.record()),
         Ok(record(&template)),
     )?;
     let mut ours = opened.expect("it was compared");
     let mut model = model::Assembly::open(key(&template));
+    same_progress(run, &ours, Progress::Waiting)?;
     for _ in 0..1 + run.rng.below(12) {
         let packet = packet(&mut run.rng, &template, &payload, len, odd);
-        let outcome = ours.take(&packet);
-        run.same("assembly take", outcome, model.take(&packet))?;
-        run.saw(name(outcome));
+        same(run, ours.take(&packet), model.take(&packet))?;
         same_state(&ours, model.record(), &model.payload, &model.map)?;
+        same_progress(run, &ours, model.progress())?;
     }
     Ok(())
 }
@@ -98,6 +106,24 @@ pub fn same_state(ours: &Assembly, record: Record, payload: &[u8], map: &[u8]) -
     }
 }
 
+/// Compares how an assembly stands, and what it holds, with an accepted answer.
+pub fn same_progress(run: &mut Run, ours: &Assembly, expected: Progress) -> Compared {
+    let held = match expected {
+        Progress::Complete(length) => Some(&ours.payload()[..length]),
+        Progress::Waiting | Progress::Spoilt => None,
+    };
+    run.saw(match expected {
+        Progress::Waiting => "stands: waiting",
+        Progress::Complete(_) => "stands: complete",
+        Progress::Spoilt => "stands: spoilt",
+    });
+    run.same("wb_assembly_progress", ours.progress(), Ok(expected))?;
+    match ours.held() == held {
+        true => Ok(()),
+        false => Err("assembly: other bytes held".to_string()),
+    }
+}
+
 /// Records and buffers that no assembly has: refused by 11, whatever the packet is.
 pub fn refused(run: &mut Run) -> Compared {
     let template = pieces::draw(&mut run.rng);
@@ -119,14 +145,12 @@ pub fn refused(run: &mut Run) -> Compared {
     let (mut held, mut map) = (vec![0xa5; p], vec![0x5a; m]);
     if (p, m) != (PAYLOAD_BYTES, MAP_BYTES) {
         let opened = Assembly::open(good.key, &mut held, &mut map).map(|_| ());
-        run.same("assembly open", opened, Err(Refusal::BadAssembly))?;
+        run.same("wb_assembly_open", opened, Err(Refusal::BadAssembly))?;
     }
     let mut ours = Assembly::resume(record, &mut held, &mut map);
-    run.same(
-        "assembly take",
-        ours.take(&packet),
-        Err(Refusal::BadAssembly),
-    )?;
+    let progress = ours.progress();
+    run.same("wb_assembly_progress", progress, Err(Refusal::BadAssembly))?;
+    same(run, ours.take(&packet), Err(Refusal::BadAssembly))?;
     let untouched = ours.record() == record
         && ours.payload().iter().all(|&b| b == 0xa5)
         && ours.map().iter().all(|&b| b == 0x5a);

@@ -25,13 +25,19 @@ fn message(packets: Vec<Packet>) -> [Vec<u8>; 2] {
 }
 
 impl Pair {
-    fn draw(run: &mut Run) -> Self {
+    fn draw(run: &mut Run) -> Result<Self, String> {
         let (cl, sv) = (run.rng.socket(), run.rng.socket());
-        let (a, b) = (run.rng.near_wrap(), run.rng.near_wrap());
-        Self {
-            ours: TcpFlow::new(cl, sv, a, b),
-            rust: ezpkt::tcp4::TcpFlow::new(cl, sv, a, b, true),
-        }
+        let (cl_seq, sv_seq) = (run.rng.near_wrap(), run.rng.near_wrap());
+        let ours = TcpFlow::new(cl, sv, cl_seq, sv_seq);
+        let given = TcpFlow {
+            cl,
+            sv,
+            cl_seq,
+            sv_seq,
+        };
+        run.same("wb_tcp_new", Ok(ours), Ok(given))?;
+        let rust = ezpkt::tcp4::TcpFlow::new(cl, sv, cl_seq, sv_seq, true);
+        Ok(Self { ours, rust })
     }
 
     /// Compares both numbers, and that nothing else of either flow has changed.
@@ -53,15 +59,19 @@ impl Pair {
         match run.rng.below(3) {
             0 => {
                 let rust = fits(&mut || rust.open());
-                run.writes("tcp open", room, rust, |out| ours.open(out))
+                run.writes("wb_tcp_open", room, rust, |out| ours.open(out))
             }
             1 => {
                 let rust = fits(&mut || rust.client_close());
-                run.writes("tcp client_close", room, rust, |out| ours.client_close(out))
+                run.writes("wb_tcp_client_close", room, rust, |out| {
+                    ours.client_close(out)
+                })
             }
             _ => {
                 let rust = fits(&mut || rust.server_close());
-                run.writes("tcp server_close", room, rust, |out| ours.server_close(out))
+                run.writes("wb_tcp_server_close", room, rust, |out| {
+                    ours.server_close(out)
+                })
             }
         }
     }
@@ -71,20 +81,26 @@ impl Pair {
         let fits = |rust: Packet| expected((0, 0), 0, (room, 40), || rust.to_vec());
         let (ours, rust) = (&mut self.ours, &self.rust);
         match run.rng.below(4) {
-            0 => run.writes_one("tcp client_reset", room, fits(rust.client_reset()), |out| {
-                ours.client_reset(out)
-            }),
-            1 => run.writes_one("tcp server_reset", room, fits(rust.server_reset()), |out| {
-                ours.server_reset(out)
-            }),
+            0 => run.writes_one(
+                "wb_tcp_client_reset",
+                room,
+                fits(rust.client_reset()),
+                |out| ours.client_reset(out),
+            ),
+            1 => run.writes_one(
+                "wb_tcp_server_reset",
+                room,
+                fits(rust.server_reset()),
+                |out| ours.server_reset(out),
+            ),
             2 => run.writes_one(
-                "tcp client_ack",
+                "wb_tcp_client_ack",
                 room,
                 fits(rust.client_ack().into()),
                 |out| ours.client_ack(out),
             ),
             _ => run.writes_one(
-                "tcp server_ack",
+                "wb_tcp_server_ack",
                 room,
                 fits(rust.server_ack().into()),
                 |out| ours.server_ack(out),
@@ -105,10 +121,10 @@ impl Pair {
             .to_vec()
         });
         match server {
-            false => run.writes_one("tcp client_data_segment", room, packet, |out| {
+            false => run.writes_one("wb_tcp_client_data_segment", room, packet, |out| {
                 ours.client_data_segment(&payload, out)
             }),
-            true => run.writes_one("tcp server_data_segment", room, packet, |out| {
+            true => run.writes_one("wb_tcp_server_data_segment", room, packet, |out| {
                 ours.server_data_segment(&payload, out)
             }),
         }
@@ -128,10 +144,10 @@ impl Pair {
         });
         let ends = |m: wispbundle::Message| [m.end, m.ack_end.unwrap_or(m.end)];
         match server {
-            false => run.writes("tcp client_message", room, packets, |out| {
+            false => run.writes("wb_tcp_client_message", room, packets, |out| {
                 ours.client_message(&payload, ack, field, out).map(ends)
             }),
-            true => run.writes("tcp server_message", room, packets, |out| {
+            true => run.writes("wb_tcp_server_message", room, packets, |out| {
                 ours.server_message(&payload, ack, field, out).map(ends)
             }),
         }
@@ -146,37 +162,37 @@ impl Pair {
             0 => {
                 ours.client_hole(a);
                 rust.client_hole(a);
-                run.made("tcp client_hole")
+                run.made("wb_tcp_client_hole")
             }
             1 => {
                 ours.server_hole(a);
                 rust.server_hole(a);
-                run.made("tcp server_hole")
+                run.made("wb_tcp_server_hole")
             }
             2 => {
                 let got: Never<Vec<u8>> = Ok(ours.client_hdr(a, csum).to_vec());
-                run.same("tcp client_hdr", got, Ok(rust.client_hdr(a, csum)))
+                run.same("wb_tcp_client_hdr", got, Ok(rust.client_hdr(a, csum)))
             }
             3 => {
                 let got: Never<Vec<u8>> = Ok(ours.server_hdr(a, csum).to_vec());
-                run.same("tcp server_hdr", got, Ok(rust.server_hdr(a, csum)))
+                run.same("wb_tcp_server_hdr", got, Ok(rust.server_hdr(a, csum)))
             }
             4 => run.same(
-                "tcp push_state",
+                "wb_tcp_push_state",
                 Ok(ours.push_state(cl, sv)),
                 Ok(rust.push_state(cl, sv)),
             ),
             _ => {
                 ours.pop_state((cl, sv));
                 rust.pop_state((cl, sv));
-                run.made("tcp pop_state")
+                run.made("wb_tcp_pop_state")
             }
         }
     }
 }
 
 pub fn compare(run: &mut Run) -> Compared {
-    let mut pair = Pair::draw(run);
+    let mut pair = Pair::draw(run)?;
     for _ in 0..1 + run.rng.below(8) {
         match run.rng.below(5) {
             0 => pair.handshake(run)?,

@@ -40,7 +40,9 @@ fn request(flow: &UdpFlow, server: bool, choices: Choices) -> UdpDatagram {
 pub fn compare(run: &mut Run) -> Compared {
     let size = run.rng.size(MAX_UDP);
     let mut payload = run.rng.bytes(size);
-    let flow = UdpFlow::new(run.rng.socket(), run.rng.socket());
+    let (cl, sv) = (run.rng.socket(), run.rng.socket());
+    let flow = UdpFlow::new(cl, sv);
+    run.same("wb_udp_new", Ok(flow), Ok(UdpFlow { cl, sv }))?;
     let server = run.rng.flip();
     let choices = Choices {
         srcip: run.rng.flip().then_some(run.rng.addr()),
@@ -58,13 +60,15 @@ pub fn compare(run: &mut Run) -> Compared {
     });
     if run.rng.flip() {
         let request = request(&flow, server, choices);
-        return run.writes_one("build udp", room, rust, |out| request.build(&payload, out));
+        return run.writes_one("wb_build_udp", room, rust, |out| {
+            request.build(&payload, out)
+        });
     }
     match server {
-        false => run.writes_one("udp client_dgram", room, rust, |out| {
+        false => run.writes_one("wb_udp_client_dgram", room, rust, |out| {
             flow.client_dgram(&payload, choices, out)
         }),
-        true => run.writes_one("udp server_dgram", room, rust, |out| {
+        true => run.writes_one("wb_udp_server_dgram", room, rust, |out| {
             flow.server_dgram(&payload, choices, out)
         }),
     }

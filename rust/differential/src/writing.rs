@@ -2,7 +2,7 @@
 
 use crate::run::{Compared, Run};
 use pkt::Packet;
-use wispbundle::{Refusal, hex_dump, pcap};
+use wispbundle::{Refusal, hex_dump, hex_dump_len, pcap};
 
 const MAX_END: usize = 1_048_576;
 
@@ -30,20 +30,23 @@ fn rust_dump(buffer: &[u8], headroom: usize, end: usize) -> Vec<u8> {
 pub fn dump(run: &mut Run) -> Compared {
     let (headroom, end, size) = part(run);
     let buffer = run.rng.bytes(size);
+    let would_be = hex_dump_len(headroom..end, &buffer);
     if headroom > end || end > size || end > MAX_END {
         let room = run.rng.below(300);
         let refused = Err(Refusal::BadPart);
-        return run.writes_one("hex_dump", room, refused, |out| {
+        run.same("wb_hex_dump_len", would_be, Err(Refusal::BadPart))?;
+        return run.writes_one("wb_hex_dump", room, refused, |out| {
             hex_dump(headroom..end, &buffer, out)
         });
     }
     let text = rust_dump(&buffer, headroom, end);
+    run.same("wb_hex_dump_len", would_be, Ok(text.len()))?;
     let room = run.room(text.len());
     let rust = match room < text.len() {
         true => Err(Refusal::NoRoom),
         false => Ok(text),
     };
-    run.writes_one("hex_dump", room, rust, |out| {
+    run.writes_one("wb_hex_dump", room, rust, |out| {
         hex_dump(headroom..end, &buffer, out)
     })
 }
@@ -56,7 +59,7 @@ pub fn capture_header(run: &mut Run) -> Compared {
         true => Err(Refusal::NoRoom),
         false => Ok(header),
     };
-    run.writes_one("pcap header", room, layout, pcap::header)
+    run.writes_one("wb_pcap_header", room, layout, pcap::header)
 }
 
 pub fn capture_record(run: &mut Run) -> Compared {
@@ -85,7 +88,7 @@ pub fn capture_record(run: &mut Run) -> Compared {
         ]
         .concat())
     };
-    run.writes_one("pcap record", room, layout, |out| {
+    run.writes_one("wb_pcap_record", room, layout, |out| {
         pcap::record(sec, usec, &packet, out)
     })
 }
