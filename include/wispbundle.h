@@ -1,16 +1,23 @@
 /* Wispbundle for C: raw IPv4, TCP, UDP and ICMP packets, pieces of a datagram, and putting pieces together.
  *
- * Link with libwispbundle.a (`rt staticlib wispbundle`), which is for x86-64 Linux. Each function is proved to do
- * what is said of it here; the exact words are its contract in crates/wispbundle/src. No function keeps anything:
- * all that it knows is in its arguments, and all that it changes is in its answer and in the buffers it is lent.
+ * Link with libwispbundle.a (`rt staticlib wispbundle`), which is for x86-64 Linux, from C11 or C++11.
  *
- * Bytes go in as a pointer and a count. The pointer is not NULL, also where the count is 0. A buffer that is
- * written to (no const) overlaps no other bytes of the same call. Numbers in structs are plain: 10.0.0.1 is
- * 0x0a000001, and port 80 is 80. A bool is 0 or 1.
+ * What a caller owes. Bytes go in as a pointer and a count: so many bytes are there, at any alignment, and the pointer
+ * is not NULL, also where the count is 0. A buffer that is written to (no const) overlaps no other bytes of the same
+ * call. A bool is 0 or 1. Numbers in structs are plain: 10.0.0.1 is 0x0a000001, and port 80 is 80.
  *
- * Every call takes every input. The answer of a call that can refuse has a status: 0 where the call was carried out,
- * and else the number of the refusal. A refused call leaves every buffer as it was, and all else in its answer is 0,
- * but a flow or an assembly that was handed in comes back as it was. So `flow = answer.flow` is always right.
+ * What a call owes. It takes every input that keeps to this, whatever the numbers and the bytes are, and answers. The
+ * answer of a call that can refuse has a status: 0 where the call was carried out, and else the number of the refusal.
+ * A refused call leaves every buffer as it was, and all else in its answer is 0, but a flow or an assembly that was
+ * handed in comes back as it was. So `flow = answer.flow` is always right.
+ *
+ * Threads. Calls share no state: all that a call knows is in its arguments, and all that it changes is in its answer
+ * and in the buffers that it is lent. Threads may call at the same time, if none of them uses a buffer that another
+ * one's call is writing to.
+ *
+ * What is proved. The code of each function does what its contract in crates/wispbundle/src says, which is what is said
+ * of it here. The proof does not cover the compiler's back end, which makes the archive from that code; how C hands
+ * structs and pointers over; nor that a caller's pointers and counts are what they say.
  */
 #ifndef WISPBUNDLE_H
 #define WISPBUNDLE_H
@@ -26,6 +33,12 @@
 #ifdef __cplusplus
 extern "C" {
 #endif
+
+/* ---- the version: another number after each change of a struct or a call, also where every size stays. The header is
+ * the archive's exactly if wb_version answers WB_VERSION. */
+#define WB_VERSION 2
+
+uint32_t wb_version(void);
 
 /* ---- statuses. Where several apply, the first in the order that is named with the call is given. */
 enum {
@@ -51,9 +64,22 @@ enum {
     WB_BAD_TIME = 17        /* microseconds above 999,999 */
 };
 
+/* ---- bounds: what is above them is refused by 1, by 2 (the offset), by 16 (the end) or by 17 (the microseconds) */
+enum {
+    WB_MOST_TCP = 65495,   /* payload bytes of a TCP segment */
+    WB_MOST_UDP = 65507,   /* .. of a UDP datagram */
+    WB_MOST_ICMP = 65507,  /* .. of an echo */
+    WB_MOST_IPV4 = 65515,  /* .. of an IPv4 datagram, of which a piece is cut */
+    WB_MOST_BYTES = 65535, /* bytes to sum, or to put in one capture record */
+    WB_MOST_OFFSET = 8191, /* a piece's offset in blocks of 8 bytes */
+    WB_MOST_END = 1048576, /* the end of a packet that is dumped */
+    WB_MOST_USEC = 999999  /* microseconds of a capture record */
+};
+
 /* ---- answers that several calls give */
 
-/* How many bytes were written, from the buffer's start on. What lies behind them keeps its contents. */
+/* How many bytes were written, from the buffer's start on, and what lies behind them keeps its contents; or, where a
+ * call writes nothing, how many there would be. */
 typedef struct {
     uint8_t status;
     size_t length;
@@ -73,7 +99,24 @@ wb_sum wb_ip_csum(const uint8_t *buf, size_t buf_len);
  * Each writes a whole packet, IPv4 header first, to the start of out, and answers its length. It refuses by 1, 3, and
  * a piece by 1, 2, 3. */
 
-/* flags: FIN 0x01, SYN 0x02, RST 0x04, PSH 0x08, ACK 0x10. frag_off is the whole 16-bit field of the IPv4 header. */
+/* The bits of flags in a TCP header. */
+enum {
+    WB_FIN = 0x01,
+    WB_SYN = 0x02,
+    WB_RST = 0x04,
+    WB_PSH = 0x08,
+    WB_ACK = 0x10,
+    WB_URG = 0x20,
+    WB_ECE = 0x40,
+    WB_CWR = 0x80
+};
+
+/* The bits of frag_off, the whole 16-bit field of the IPv4 header; the other 13 are the offset in blocks. */
+enum { WB_EVIL = 0x8000, WB_DF = 0x4000, WB_MF = 0x2000 };
+
+enum { WB_PROTOCOL_ICMP = 1, WB_PROTOCOL_TCP = 6, WB_PROTOCOL_UDP = 17 };
+
+/* Any flags, and any frag_off. */
 typedef struct {
     uint32_t saddr;
     uint32_t daddr;
@@ -85,7 +128,7 @@ typedef struct {
     uint16_t frag_off;
 } wb_tcp_segment;
 
-/* frag_off: as above. csum: whether the checksum is computed; else its field is 0. */
+/* Any frag_off. csum: whether the checksum is computed; else its field is 0. */
 typedef struct {
     uint32_t saddr;
     uint32_t daddr;
@@ -103,7 +146,7 @@ typedef struct {
     uint16_t seq;
 } wb_icmp_packet;
 
-/* What every piece of one payload says in its header. evil is the reserved bit. */
+/* What every piece of one payload says in its header. evil is the reserved bit; protocol is any number. */
 typedef struct {
     uint8_t tos;
     uint16_t id;
@@ -134,21 +177,21 @@ wb_length wb_build_piece(wb_ip_piece piece, const uint8_t *payload, size_t paylo
  * set exactly if bytes follow. A piece past the payload's end is empty and has MF clear, so it claims a longer
  * datagram: with the payload's last piece it spoils an assembly. At the offsets 8,190 and 8,191 it ends above 65,515,
  * so taking it is refused by 10, and it spoils nothing. Each call writes one packet to the start of out, and answers
- * its length. It refuses by 1, 2, 3. */
+ * its length. */
 
-/* The same packet as wb_build_piece writes. */
+/* The same packet as wb_build_piece writes. Refuses by 1, 2, 3. */
 wb_length wb_fragment(wb_template template_, const uint8_t *payload, size_t payload_len, uint16_t off, uint16_t len,
                       uint8_t *out, size_t out_len);
-/* All from block off on. */
+/* All from block off on. Refuses by 1, 2, 3. */
 wb_length wb_tail(wb_template template_, const uint8_t *payload, size_t payload_len, uint16_t off, uint8_t *out,
                   size_t out_len);
-/* The whole payload, with offset 0 and MF clear. */
+/* The whole payload, with offset 0 and MF clear. Refuses by 1, 3. */
 wb_length wb_datagram(wb_template template_, const uint8_t *payload, size_t payload_len, uint8_t *out, size_t out_len);
 
 /* ---- TCP flows
  * A flow has two ends and the next sequence number of each; numbers wrap at 2^32. A call that sends writes its packets
- * end to end to the start of out, or none of them, and answers where each ends (0: there is no such packet). It
- * refuses by 1, 3. */
+ * end to end to the start of out, or none of them, and answers where each ends (0: there is no such packet). A call
+ * without payload bytes refuses by 3, and one with them by 1, 3. */
 
 typedef struct {
     uint32_t ip;
@@ -293,8 +336,10 @@ typedef struct {
     uint16_t id;
 } wb_key;
 
-/* total is how many bytes the datagram's IPv4 payload has; where known is false, it does not count. The total is at
- * least floor. */
+/* total is how many bytes the datagram's IPv4 payload has. Where known is false, it does not count, and a call that is
+ * carried out answers it as 0. Every record counts as it is, unless 11 refuses it. In one that calls have led to from
+ * wb_assembly_open, floor is one more than the furthest end of a piece with MF set (0 where there is none), and a known
+ * total is at least floor; when it is spoilt, known is false, and total and floor are 0. */
 typedef struct {
     wb_key key;
     bool known;
@@ -322,12 +367,29 @@ wb_opened wb_assembly_open(wb_key key, uint8_t *payload, size_t payload_len, uin
 
 /* Takes the piece that a packet carries: its data goes to its place in payload, and its blocks are marked in map.
  * Waiting: bytes are missing still. Complete: payload holds the datagram's IPv4 payload in its first total bytes; a
- * later piece may still spoil it. Spoilt: two pieces contradict each other. The piece that spoils zeroes both buffers;
- * a record that is already spoilt, and its buffers, are left as they are. Refuses by 11, 4, 5, 6, 4, 7, 8, 9, 10. */
+ * later piece may still spoil it. Spoilt: two pieces contradict each other. The piece that spoils zeroes both buffers.
+ * Where spoilt is true already, both buffers stay, and the record comes back as it was, with total 0 where known is
+ * false. Refuses by 11, 4, 5, 6, 4, 7, 8, 9, 10. */
 wb_taken wb_assembly_take(wb_assembly before, const uint8_t *packet, size_t packet_len, uint8_t *payload,
                           size_t payload_len, uint8_t *map, size_t map_len);
 
+/* The outcome is 0 on a refusal. length is 0, unless the outcome is complete. */
+typedef struct {
+    uint8_t status;
+    uint8_t outcome;
+    size_t length;
+} wb_progress;
+
+/* How an assembly stands: after wb_assembly_open waiting, and after each piece that was taken the outcome that was
+ * answered. Complete: the first length bytes of payload are the datagram's IPv4 payload. Nothing is written. Refuses by
+ * 11. */
+wb_progress wb_assembly_progress(wb_assembly before, const uint8_t *payload, size_t payload_len, const uint8_t *map,
+                                 size_t map_len);
+
 /* ---- captures: classic pcap, little-endian, microseconds, link type 101 (raw IP) */
+
+/* What a file begins with, and what stands before each packet in it. */
+enum { WB_PCAP_HEADER_BYTES = 24, WB_PCAP_RECORD_BYTES = 16 };
 
 /* The 24 bytes that a file begins with. Refuses by 3. */
 wb_length wb_pcap_header(uint8_t *out, size_t out_len);
@@ -343,9 +405,157 @@ typedef struct {
     size_t end;
 } wb_packet;
 
-/* Text, with no NUL behind it. Positions count from the start of buf. For a packet of n bytes: 14 characters and the
- * decimal digits of n, 57 for each line of up to 16 bytes, and one for each byte. Refuses by 16, 3. */
+/* How many characters the dump has. For a packet of n bytes: 14 and the decimal digits of n, 57 for each line of up to
+ * 16 bytes, and one for each byte. Refuses by 16. */
+wb_length wb_hex_dump_len(wb_packet packet, const uint8_t *buf, size_t buf_len);
+/* Text, with no NUL behind it. Positions count from the start of buf. Refuses by 16, 3. */
 wb_length wb_hex_dump(wb_packet packet, const uint8_t *buf, size_t buf_len, uint8_t *out, size_t out_len);
+
+/* ---- the layout of each struct in the archive: its size, and where each of its fields begins */
+
+#ifdef __cplusplus
+#define WB_ASSERT static_assert
+#else
+#define WB_ASSERT _Static_assert
+#endif
+#define WB_SIZE(type, size) WB_ASSERT(sizeof(type) == (size), #type " has another size in the archive")
+#define WB_AT(type, field, at) WB_ASSERT(offsetof(type, field) == (at), #type "." #field " is elsewhere in the archive")
+
+WB_SIZE(wb_length, 16);
+WB_AT(wb_length, status, 0);
+WB_AT(wb_length, length, 8);
+
+WB_SIZE(wb_sum, 4);
+WB_AT(wb_sum, status, 0);
+WB_AT(wb_sum, sum, 2);
+
+WB_SIZE(wb_tcp_segment, 24);
+WB_AT(wb_tcp_segment, saddr, 0);
+WB_AT(wb_tcp_segment, daddr, 4);
+WB_AT(wb_tcp_segment, sport, 8);
+WB_AT(wb_tcp_segment, dport, 10);
+WB_AT(wb_tcp_segment, seq, 12);
+WB_AT(wb_tcp_segment, ack, 16);
+WB_AT(wb_tcp_segment, flags, 20);
+WB_AT(wb_tcp_segment, frag_off, 22);
+
+WB_SIZE(wb_udp_datagram, 16);
+WB_AT(wb_udp_datagram, saddr, 0);
+WB_AT(wb_udp_datagram, daddr, 4);
+WB_AT(wb_udp_datagram, sport, 8);
+WB_AT(wb_udp_datagram, dport, 10);
+WB_AT(wb_udp_datagram, frag_off, 12);
+WB_AT(wb_udp_datagram, csum, 14);
+
+WB_SIZE(wb_icmp_packet, 12);
+WB_AT(wb_icmp_packet, saddr, 0);
+WB_AT(wb_icmp_packet, daddr, 4);
+WB_AT(wb_icmp_packet, reply, 8);
+WB_AT(wb_icmp_packet, seq, 10);
+
+WB_SIZE(wb_template, 16);
+WB_AT(wb_template, tos, 0);
+WB_AT(wb_template, id, 2);
+WB_AT(wb_template, df, 4);
+WB_AT(wb_template, evil, 5);
+WB_AT(wb_template, ttl, 6);
+WB_AT(wb_template, protocol, 7);
+WB_AT(wb_template, saddr, 8);
+WB_AT(wb_template, daddr, 12);
+
+WB_SIZE(wb_ip_piece, 20);
+WB_AT(wb_ip_piece, template_, 0);
+WB_AT(wb_ip_piece, off, 16);
+WB_AT(wb_ip_piece, len, 18);
+
+WB_SIZE(wb_addr, 8);
+WB_AT(wb_addr, ip, 0);
+WB_AT(wb_addr, port, 4);
+
+WB_SIZE(wb_tcp_flow, 24);
+WB_AT(wb_tcp_flow, cl, 0);
+WB_AT(wb_tcp_flow, sv, 8);
+WB_AT(wb_tcp_flow, cl_seq, 16);
+WB_AT(wb_tcp_flow, sv_seq, 20);
+
+WB_SIZE(wb_tcp_sent, 56);
+WB_AT(wb_tcp_sent, status, 0);
+WB_AT(wb_tcp_sent, flow, 4);
+WB_AT(wb_tcp_sent, first, 32);
+WB_AT(wb_tcp_sent, second, 40);
+WB_AT(wb_tcp_sent, third, 48);
+
+WB_SIZE(wb_tcp_header, 44);
+WB_AT(wb_tcp_header, flow, 0);
+WB_AT(wb_tcp_header, bytes, 24);
+
+WB_SIZE(wb_seq, 8);
+WB_AT(wb_seq, is_set, 0);
+WB_AT(wb_seq, number, 4);
+
+WB_SIZE(wb_pushed, 40);
+WB_AT(wb_pushed, flow, 0);
+WB_AT(wb_pushed, cl, 24);
+WB_AT(wb_pushed, sv, 32);
+
+WB_SIZE(wb_udp_flow, 16);
+WB_AT(wb_udp_flow, cl, 0);
+WB_AT(wb_udp_flow, sv, 8);
+
+WB_SIZE(wb_choices, 12);
+WB_AT(wb_choices, other_source, 0);
+WB_AT(wb_choices, srcip, 4);
+WB_AT(wb_choices, frag_off, 8);
+WB_AT(wb_choices, csum, 10);
+
+WB_SIZE(wb_icmp_flow, 12);
+WB_AT(wb_icmp_flow, cl, 0);
+WB_AT(wb_icmp_flow, sv, 4);
+WB_AT(wb_icmp_flow, ping_seq, 8);
+WB_AT(wb_icmp_flow, pong_seq, 10);
+
+WB_SIZE(wb_icmp_sent, 24);
+WB_AT(wb_icmp_sent, status, 0);
+WB_AT(wb_icmp_sent, flow, 4);
+WB_AT(wb_icmp_sent, length, 16);
+
+WB_SIZE(wb_checked, 2);
+WB_AT(wb_checked, status, 0);
+WB_AT(wb_checked, no_checksum, 1);
+
+WB_SIZE(wb_key, 12);
+WB_AT(wb_key, saddr, 0);
+WB_AT(wb_key, daddr, 4);
+WB_AT(wb_key, id, 8);
+
+WB_SIZE(wb_assembly, 40);
+WB_AT(wb_assembly, key, 0);
+WB_AT(wb_assembly, known, 12);
+WB_AT(wb_assembly, total, 16);
+WB_AT(wb_assembly, floor, 24);
+WB_AT(wb_assembly, spoilt, 32);
+
+WB_SIZE(wb_opened, 48);
+WB_AT(wb_opened, status, 0);
+WB_AT(wb_opened, assembly, 8);
+
+WB_SIZE(wb_taken, 48);
+WB_AT(wb_taken, status, 0);
+WB_AT(wb_taken, outcome, 1);
+WB_AT(wb_taken, assembly, 8);
+
+WB_SIZE(wb_progress, 16);
+WB_AT(wb_progress, status, 0);
+WB_AT(wb_progress, outcome, 1);
+WB_AT(wb_progress, length, 8);
+
+WB_SIZE(wb_packet, 16);
+WB_AT(wb_packet, headroom, 0);
+WB_AT(wb_packet, end, 8);
+
+#undef WB_AT
+#undef WB_SIZE
+#undef WB_ASSERT
 
 #ifdef __cplusplus
 }

@@ -23,7 +23,8 @@ pub struct Record {
     pub key: Key,
     /// The datagram's IPv4 payload bytes, where a piece with MF clear has told them.
     pub total: Option<usize>,
-    /// The total is at least this.
+    /// One more than the furthest end of a piece with MF set, or 0. In an assembly that was opened, a
+    /// known total is at least this.
     pub floor: usize,
     pub spoilt: bool,
 }
@@ -37,6 +38,17 @@ pub enum Outcome {
     Complete,
     /// Two pieces contradict each other. The piece that spoils zeroes both buffers; a spoilt record and
     /// its buffers are then left as they are.
+    Spoilt,
+}
+
+/// How an assembly stands.
+#[derive(Copy, Clone, Debug, PartialEq, Eq)]
+pub enum Progress {
+    /// Bytes are missing still.
+    Waiting,
+    /// The whole IPv4 payload is held: so many bytes.
+    Complete(usize),
+    /// Two pieces contradict each other.
     Spoilt,
 }
 
@@ -85,7 +97,7 @@ impl Outcome {
             1 => Self::Waiting,
             2 => Self::Complete,
             3 => Self::Spoilt,
-            n => unreachable!("an accepted piece is proved to have no outcome {n}"),
+            n => unreachable!("a call that is carried out is proved to have no outcome {n}"),
         }
     }
 }
@@ -113,7 +125,6 @@ pub struct Assembly<'a> {
     record: Record,
     payload: &'a mut [u8],
     map: &'a mut [u8],
-    complete: bool,
 }
 
 impl<'a> Assembly<'a> {
@@ -131,13 +142,13 @@ impl<'a> Assembly<'a> {
         Ok(Self::resume(Record::of(answer.assembly), payload, map))
     }
 
-    /// Goes on with a record and buffers that were kept. Nothing is looked at before the next piece.
+    /// Goes on with a record and buffers that were kept. Any are taken: those that no assembly has
+    /// are refused by 11 with the next call, and hold nothing.
     pub fn resume(record: Record, payload: &'a mut [u8], map: &'a mut [u8]) -> Self {
         Self {
             record,
             payload,
             map,
-            complete: false,
         }
     }
 
@@ -152,15 +163,31 @@ impl<'a> Assembly<'a> {
             unsafe { sys::wb_assembly_take(before, from, count, to, room, marks, marks_room) };
         Refusal::unless_accepted(answer.status)?;
         self.record = Record::of(answer.assembly);
-        let outcome = Outcome::of(answer.outcome);
-        self.complete = outcome == Outcome::Complete;
-        Ok(outcome)
+        Ok(Outcome::of(answer.outcome))
     }
 
-    /// The datagram's IPv4 payload, where the last piece that was taken left it complete.
+    /// How the assembly stands. Refuses by 11.
+    pub fn progress(&self) -> Result<Progress, Refusal> {
+        let (from, count) = (self.payload.as_ptr(), self.payload.len());
+        let (marks, marks_count) = (self.map.as_ptr(), self.map.len());
+        // SAFETY: both pointers and counts are those of slices.
+        let answer = unsafe {
+            sys::wb_assembly_progress(self.record.raw(), from, count, marks, marks_count)
+        };
+        Refusal::unless_accepted(answer.status)?;
+        Ok(match Outcome::of(answer.outcome) {
+            Outcome::Waiting => Progress::Waiting,
+            Outcome::Complete => Progress::Complete(answer.length),
+            Outcome::Spoilt => Progress::Spoilt,
+        })
+    }
+
+    /// The datagram's IPv4 payload, where [`progress`](Self::progress) answers that it is complete.
     pub fn held(&self) -> Option<&[u8]> {
-        let total = self.record.total.filter(|_| self.complete)?;
-        self.payload.get(..total)
+        match self.progress() {
+            Ok(Progress::Complete(length)) => self.payload.get(..length),
+            _ => None,
+        }
     }
 
     pub fn record(&self) -> Record {

@@ -4,6 +4,23 @@ use crate::lend::lend;
 use crate::{Refusal, sys};
 use std::ops::Range;
 
+fn packet(part: Range<usize>) -> sys::Packet {
+    sys::Packet {
+        headroom: part.start,
+        end: part.end,
+    }
+}
+
+/// How many bytes [`hex_dump`] writes. Refuses by 16.
+///
+/// ```
+/// assert_eq!(wispbundle::hex_dump_len(1..5, b"lap!\0"), Ok(76));
+/// ```
+pub fn hex_dump_len(part: Range<usize>, buf: &[u8]) -> Result<usize, Refusal> {
+    // SAFETY: the pointer and the count are those of a slice.
+    Refusal::or_length(unsafe { sys::wb_hex_dump_len(packet(part), buf.as_ptr(), buf.len()) })
+}
+
 /// Writes the dump of the packet that is `part` of `buf`, as text. Positions count from the start of
 /// `buf`. Refuses by 16, 3.
 ///
@@ -15,9 +32,5 @@ use std::ops::Range;
 /// assert!(text.ends_with(" ap!.\n"));
 /// ```
 pub fn hex_dump(part: Range<usize>, buf: &[u8], out: &mut [u8]) -> Result<usize, Refusal> {
-    let packet = sys::Packet {
-        headroom: part.start,
-        end: part.end,
-    };
-    Refusal::or_length(lend!(wb_hex_dump, packet, buf, out))
+    Refusal::or_length(lend!(wb_hex_dump, packet(part), buf, out))
 }

@@ -50,14 +50,16 @@ mod refusal;
 pub mod sys;
 mod tcp;
 mod udp;
+mod version;
 
-pub use assembly::{Assembly, Key, MAP_BYTES, Outcome, PAYLOAD_BYTES, Record};
+pub use assembly::{Assembly, Key, MAP_BYTES, Outcome, PAYLOAD_BYTES, Progress, Record};
 pub use build::{Echo, IcmpPacket, TcpSegment, UdpDatagram, flags};
 pub use check::{Good, check};
 pub use csum::ip_csum;
-pub use dump::hex_dump;
+pub use dump::{hex_dump, hex_dump_len};
 pub use icmp::IcmpFlow;
 pub use piece::{Piece, Template};
 pub use refusal::Refusal;
 pub use tcp::{Message, Sides, TcpFlow};
 pub use udp::{Choices, UdpFlow};
+pub use version::version;

@@ -2,7 +2,8 @@
 //!
 //! For every function here: a pointer and the count behind it name that many bytes, the pointer is
 //! not null, and bytes behind a `*mut` overlap no other bytes of the same call. That is all that a
-//! caller owes; the safe calls of this crate pay it with slices.
+//! caller owes; the safe calls of this crate pay it with slices. And the archive is that of these
+//! declarations: [`wb_version`] answers [`VERSION`].
 
 mod types;
 pub use types::*;
@@ -18,6 +19,9 @@ mod aarch64;
 #[cfg(not(any(target_arch = "x86_64", target_arch = "aarch64")))]
 compile_error!("libwispbundle.a is for x86-64; beside it only aarch64 is known, for tests");
 
+/// The header's `WB_VERSION`: the number of the archive whose structs and calls these are.
+pub const VERSION: u32 = 2;
+
 macro_rules! functions {
     ($($form:ident $($name:ident),+: fn $args:tt -> $answer:ident;)+) => {
         $($(function! { $form $name $args $answer })+)+
@@ -29,6 +33,8 @@ macro_rules! functions {
 // larger. A larger argument is followed by its words, in brackets, and the arguments then, behind a
 // semicolon, by the registers that they leave unused.
 functions! {
+    small wb_version: fn() -> u32;
+
     small wb_ip_csum: fn(buf: *const u8, buf_len: usize) -> Sum;
 
     argument wb_build_tcp: fn(
@@ -106,12 +112,17 @@ functions! {
         packet: *const u8, packet_len: usize,
         payload: *mut u8, payload_len: usize, map: *mut u8, map_len: usize; r7
     ) -> Taken;
+    argument wb_assembly_progress: fn(
+        before: Assembly [a b c d e],
+        payload: *const u8, payload_len: usize, map: *const u8, map_len: usize; r4 r5 r6 r7
+    ) -> Progress;
 
     small wb_pcap_header: fn(out: *mut u8, out_len: usize) -> Length;
     small wb_pcap_record: fn(
         sec: u32, usec: u32, packet: *const u8, packet_len: usize, out: *mut u8, out_len: usize
     ) -> Length;
 
+    small wb_hex_dump_len: fn(packet: Packet, buf: *const u8, buf_len: usize) -> Length;
     small wb_hex_dump: fn(
         packet: Packet, buf: *const u8, buf_len: usize, out: *mut u8, out_len: usize
     ) -> Length;

@@ -3,7 +3,8 @@
 mod common;
 use common::*;
 use wispbundle::{
-    Assembly, Good, MAP_BYTES, Outcome, PAYLOAD_BYTES, Record, Refusal, UdpDatagram, check,
+    Assembly, Good, MAP_BYTES, Outcome, PAYLOAD_BYTES, Progress, Record, Refusal, UdpDatagram,
+    check,
 };
 
 const ORDERS: [[usize; 3]; 6] = [
@@ -49,6 +50,7 @@ fn opening_zeroes_all_but_the_key() {
     let mut b = buffers();
     let assembly = open(&mut b);
     assert_eq!(assembly.record(), new_record());
+    assert_eq!(assembly.progress(), Ok(Progress::Waiting));
     assert_eq!(assembly.held(), None);
     assert!(b.payload.iter().chain(&b.map).all(|&byte| byte == 0));
 }
@@ -145,8 +147,25 @@ fn empty_pieces_count() {
     let mut b = buffers();
     let mut assembly = open(&mut b);
     assert_eq!(assembly.take(&empty), Ok(Outcome::Complete));
+    assert_eq!(assembly.progress(), Ok(Progress::Complete(0)));
     assert_eq!(assembly.held(), Some(&[][..]));
     assert_eq!(assembly.take(&some), Ok(Outcome::Spoilt));
+}
+
+#[test]
+fn progress_is_what_the_last_piece_was_answered() {
+    let (payload, mut b) = (counted(20), buffers());
+    let mut assembly = open(&mut b);
+    for (off, outcome, progress) in [
+        (2, Outcome::Waiting, Progress::Waiting),
+        (1, Outcome::Waiting, Progress::Waiting),
+        (0, Outcome::Complete, Progress::Complete(20)),
+        (3, Outcome::Spoilt, Progress::Spoilt),
+        (0, Outcome::Spoilt, Progress::Spoilt),
+    ] {
+        assert_eq!(assembly.take(&fragment(&payload, off, 1)), Ok(outcome));
+        assert_eq!(assembly.progress(), Ok(progress));
+    }
 }
 
 #[test]
@@ -155,6 +174,7 @@ fn the_longest_datagram() {
     let whole = written(|out| template().datagram(&payload, out));
     let mut assembly = open(&mut b);
     assert_eq!(assembly.take(&whole), Ok(Outcome::Complete));
+    assert_eq!(assembly.progress(), Ok(Progress::Complete(65_515)));
     assert_eq!(assembly.held(), Some(&payload[..]));
 }
 
@@ -212,6 +232,7 @@ fn records_that_no_assembly_has_are_refused() {
         let mut assembly = Assembly::resume(record, &mut b.payload, &mut b.map);
         assert_eq!(assembly.take(&piece), Err(Refusal::BadAssembly));
         assert_eq!(assembly.take(&[]), Err(Refusal::BadAssembly));
+        assert_eq!(assembly.progress(), Err(Refusal::BadAssembly));
         assert_eq!(assembly.record(), record);
         assert!(
             b.payload
@@ -224,6 +245,7 @@ fn records_that_no_assembly_has_are_refused() {
         let (mut payload, mut map) = (vec![UNTOUCHED; p], vec![UNTOUCHED; m]);
         let mut assembly = Assembly::resume(good, &mut payload, &mut map);
         assert_eq!(assembly.take(&piece), Err(Refusal::BadAssembly));
+        assert_eq!(assembly.progress(), Err(Refusal::BadAssembly));
     }
 }
 
@@ -239,4 +261,64 @@ fn an_assembly_can_be_left_and_resumed() {
         Ok(Outcome::Complete)
     );
     assert_eq!(assembly.held(), Some(&payload[..]));
+}
+
+#[test]
+fn a_complete_assembly_is_resumed_complete() {
+    let (payload, mut b) = (counted(20), buffers());
+    let mut assembly = open(&mut b);
+    for off in [0, 1, 2] {
+        let record = assembly.record();
+        let mut again = Assembly::resume(record, &mut b.payload, &mut b.map);
+        assert_eq!(again.held(), None);
+        again.take(&fragment(&payload, off, 1)).unwrap();
+        assembly = again;
+    }
+    let record = assembly.record();
+    let assembly = Assembly::resume(record, &mut b.payload, &mut b.map);
+    assert_eq!(assembly.progress(), Ok(Progress::Complete(20)));
+    assert_eq!(assembly.held(), Some(&payload[..]));
+}
+
+#[test]
+fn what_is_resumed_and_not_complete_holds_nothing() {
+    let good = Record {
+        total: Some(20),
+        ..new_record()
+    };
+    let (spoilt, unknown) = (true, None);
+    for (record, last) in [
+        (Record { spoilt, ..good }, 7),
+        (
+            Record {
+                total: unknown,
+                ..good
+            },
+            7,
+        ),
+        (
+            Record {
+                total: Some(65_516),
+                ..good
+            },
+            0xff,
+        ),
+        (
+            Record {
+                floor: 65_514,
+                ..good
+            },
+            7,
+        ),
+        (good, 6),
+    ] {
+        let mut b = buffers();
+        b.map.fill(last);
+        let assembly = Assembly::resume(record, &mut b.payload, &mut b.map);
+        assert_eq!(assembly.held(), None);
+    }
+    for (p, m) in [(65_514, 1024), (65_515, 1025), (0, 0)] {
+        let (mut payload, mut map) = (vec![0; p], vec![0xff; m]);
+        assert_eq!(Assembly::resume(good, &mut payload, &mut map).held(), None);
+    }
 }

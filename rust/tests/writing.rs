@@ -2,7 +2,7 @@
 
 mod common;
 use common::*;
-use wispbundle::{IcmpFlow, Refusal, hex_dump, pcap};
+use wispbundle::{IcmpFlow, Refusal, hex_dump, hex_dump_len, pcap};
 
 const PCAPONE: [u8; 72] = [
     0xd4, 0xc3, 0xb2, 0xa1, 0x02, 0x00, 0x04, 0x00, 0x00, 0x00, 0x00, 0x00, 0x00, 0x00, 0x00, 0x00,
@@ -52,6 +52,7 @@ fn a_dump_of_two_lines() {
     let expected = "17 byte packet:\n\
         00010 | 2e 2f 30 31 32 33 34 35 36 37 38 39 3a 3b 3c 3d ./0123456789:;<=\n\
         00020 | 3e                                              >\n";
+    assert_eq!(hex_dump_len(16..33, &bytes), Ok(expected.len()));
     assert_eq!(String::from_utf8(text).unwrap(), expected);
     assert_eq!(
         written(|out| hex_dump(3..3, &bytes, out)),
@@ -63,6 +64,9 @@ fn a_dump_of_two_lines() {
 #[allow(clippy::reversed_empty_ranges)]
 fn dump_refusals_in_their_order() {
     let bytes = counted(20);
+    assert_eq!(hex_dump_len(3..2, &bytes), Err(Refusal::BadPart));
+    assert_eq!(hex_dump_len(0..21, &bytes), Err(Refusal::BadPart));
+    assert_eq!(hex_dump_len(3..3, &bytes), Ok(15));
     refused(0, Refusal::BadPart, |out| hex_dump(3..2, &bytes, out));
     refused(500, Refusal::BadPart, |out| hex_dump(0..21, &bytes, out));
     refused(500, Refusal::BadPart, |out| {

@@ -12,7 +12,7 @@ use lib.ListN.{length, getD, take, drop, drop-of-length-le}
 use lib.Seq.{drop-cons, drop-drop}
 use lib.Dec.{eqb}
 use borrow.Author.Tests.{eqb-true, eqb-false, eq-eqb, ne-eqb, not-true, not-false}
-use Rattle.assembly.specs.Map.{bit}
+use Rattle.assembly.specs.Map.{blockBit}
 use Rattle.assembly.specs.Assembly.{byteClash}
 use Rattle.assembly.specs.Search.{unlike, onward}
 use Rattle.pkt.proofs.Choice.{or-cases, or-no, and-both, and-no}
@@ -22,7 +22,7 @@ pub record ClashAt (d m : List ℕ) (k : ℕ) (xs : List ℕ) : Type 0 where
   pub place : ℕ
   pub from : k ≤ place
   pub till : place < k + length xs
-  pub is-set : bit m (place / 8) ≡ 1
+  pub is-set : blockBit m (place / 8) ≡ 1
   pub other : getD d place 0 ≢ getD xs (place - k) 0
 
 pub byteClash-true : (d m : List ℕ) (k : ℕ) (xs : List ℕ) → byteClash d m k xs ≡ true → ClashAt d m k xs
@@ -31,11 +31,11 @@ byteClash-true d m k [] e = absurd (true≢false (sym e))
 byteClash-true d m k (x ∷ xs) e = go (byteClash-true d m (suc k) xs) (or-cases _ _ e)
   where
     go : (byteClash d m (suc k) xs ≡ true → ClashAt d m (suc k) xs)
-        → ((eqb (bit m (k / 8)) 1 && not (eqb (getD d k 0) x)) ≡ true) ⊎ (byteClash d m (suc k) xs ≡ true)
+        → ((eqb (blockBit m (k / 8)) 1 && not (eqb (getD d k 0) x)) ≡ true) ⊎ (byteClash d m (suc k) xs ≡ true)
         → ClashAt d m k (x ∷ xs)
     go below (inl h) =
         let z : k - k ≡ 0 = omega arith in
-        let t = and-both (eqb (bit m (k / 8)) 1) (not (eqb (getD d k 0) x)) h in
+        let t = and-both (eqb (blockBit m (k / 8)) 1) (not (eqb (getD d k 0) x)) h in
         record {
           place = k;
           from = omega arith;
@@ -56,14 +56,14 @@ byteClash-true d m k (x ∷ xs) e = go (byteClash-true d m (suc k) xs) (or-cases
         }
 
 pub byteClash-false : (d m : List ℕ) (k : ℕ) (xs : List ℕ) → byteClash d m k xs ≡ false
-    → (j : ℕ) → k ≤ j → j < k + length xs → bit m (j / 8) ≡ 1 → getD d j 0 ≡ getD xs (j - k) 0
+    → (j : ℕ) → k ≤ j → j < k + length xs → blockBit m (j / 8) ≡ 1 → getD d j 0 ≡ getD xs (j - k) 0
 unfolding byteClash
 byteClash-false d m k [] e j lo hi set = absurd (omega arith)
 byteClash-false d m k (x ∷ xs) e j lo hi set =
-    let t = or-no (eqb (bit m (k / 8)) 1 && not (eqb (getD d k 0) x)) (byteClash d m (suc k) xs) e in
+    let t = or-no (eqb (blockBit m (k / 8)) 1 && not (eqb (getD d k 0) x)) (byteClash d m (suc k) xs) e in
     go (t .0) (λ h. byteClash-false d m (suc k) xs (t .1) j h (omega arith) set) (ℕ-discrete j k)
   where
-    go : (eqb (bit m (k / 8)) 1 && not (eqb (getD d k 0) x)) ≡ false → (suc k ≤ j → getD d j 0 ≡ getD xs (j - suc k) 0) → Dec (j ≡ k)
+    go : (eqb (blockBit m (k / 8)) 1 && not (eqb (getD d k 0) x)) ≡ false → (suc k ≤ j → getD d j 0 ≡ getD xs (j - suc k) 0) → Dec (j ≡ k)
         → getD d j 0 ≡ getD (x ∷ xs) (j - k) 0
     go here below (yes q) =
         let z : k - k ≡ 0 = omega arith in
@@ -71,30 +71,30 @@ byteClash-false d m k (x ∷ xs) e j lo hi set =
     go here below (no ne) = let z : j - k ≡ suc (j - suc k) = omega arith in rw z (below (omega arith))
 
 -- ---- n bytes of blocks whose bits are set are compared; n bytes of blocks whose bits are clear are passed over
-span-set : (d m : List ℕ) (k : ℕ) (xs : List ℕ) (n : ℕ) → ((j : ℕ) → k ≤ j → j < k + n → eqb (bit m (j / 8)) 1 ≡ true)
+span-set : (d m : List ℕ) (k : ℕ) (xs : List ℕ) (n : ℕ) → ((j : ℕ) → k ≤ j → j < k + n → eqb (blockBit m (j / 8)) 1 ≡ true)
     → byteClash d m k xs ≡ (unlike d k (take n xs) || byteClash d m (k + n) (drop n xs))
 unfolding byteClash unlike
 span-set d m k xs zero h = rw add-zero refl
 span-set d m k [] (suc n) h = refl
 span-set d m k (x ∷ xs) (suc n) h =
     let e : k + suc n ≡ suc k + n = omega arith in
-    let b : eqb (bit m (k / 8)) 1 ≡ true = h k (omega arith) (omega arith) in
+    let b : eqb (blockBit m (k / 8)) 1 ≡ true = h k (omega arith) (omega arith) in
     let s = span-set d m (suc k) xs n (λ j lo hi. h j (omega arith) (omega arith)) in
     rw (b, e, or-assoc) (ap (λ (r : Bool). not (eqb (getD d k 0) x) || r) s)
 
-span-clear : (d m : List ℕ) (k : ℕ) (xs : List ℕ) (n : ℕ) → ((j : ℕ) → k ≤ j → j < k + n → eqb (bit m (j / 8)) 1 ≡ false)
+span-clear : (d m : List ℕ) (k : ℕ) (xs : List ℕ) (n : ℕ) → ((j : ℕ) → k ≤ j → j < k + n → eqb (blockBit m (j / 8)) 1 ≡ false)
     → byteClash d m k xs ≡ byteClash d m (k + n) (drop n xs)
 unfolding byteClash
 span-clear d m k xs zero h = rw add-zero refl
 span-clear d m k [] (suc n) h = refl
 span-clear d m k (x ∷ xs) (suc n) h =
     let e : k + suc n ≡ suc k + n = omega arith in
-    let b : eqb (bit m (k / 8)) 1 ≡ false = h k (omega arith) (omega arith) in
+    let b : eqb (blockBit m (k / 8)) 1 ≡ false = h k (omega arith) (omega arith) in
     rw (b, e) (span-clear d m (suc k) xs n (λ j lo hi. h j (omega arith) (omega arith)))
 
 -- ---- how far the test goes on from block k
-bit-none : (m : List ℕ) (k : ℕ) → getD m (k / 8) 0 ≡ 0 → eqb (bit m k) 1 ≡ false
-unfolding bit
+bit-none : (m : List ℕ) (k : ℕ) → getD m (k / 8) 0 ≡ 0 → eqb (blockBit m k) 1 ≡ false
+unfolding blockBit
 bit-none m k z = rw (z, zero-div) refl
 
 -- what holds of a block, and of the blocks left in a byte of the map that is 0, holds of it
@@ -115,7 +115,7 @@ onward-blocks m k n e =
 
 -- the block at place 8 * off + i, for data that starts at block off
 module _ (d m : List ℕ) (off : ℕ) (xs : List ℕ) (i : ℕ) (whole : i % 8 ≡ 0) where
-  bits : (b : Bool) → eqb (bit m (off + i / 8)) 1 ≡ b → (j : ℕ) → 8 * off + i ≤ j → j < 8 * off + i + 8 → eqb (bit m (j / 8)) 1 ≡ b
+  bits : (b : Bool) → eqb (blockBit m (off + i / 8)) 1 ≡ b → (j : ℕ) → 8 * off + i ≤ j → j < 8 * off + i + 8 → eqb (blockBit m (j / 8)) 1 ≡ b
   bits b e j lo hi = let q : j / 8 ≡ off + i / 8 = omega arith in rw q e
 
   rest : (n : ℕ) → byteClash d m (8 * off + i + n) (drop n (drop i xs)) ≡ byteClash d m (8 * off + (i + n)) (drop (i + n) xs)
@@ -126,21 +126,21 @@ module _ (d m : List ℕ) (off : ℕ) (xs : List ℕ) (i : ℕ) (whole : i % 8 �
   Leads n = byteClash d m (8 * off + (i + n)) (drop (i + n) xs) ≡ byteClash d m (8 * off + i) (drop i xs)
 
   -- a marked block that differs ends the search; any other block leads on
-  pub block-here : eqb (bit m (off + i / 8)) 1 ≡ true → unlike d (8 * off + i) (take 8 (drop i xs)) ≡ true
+  pub block-here : eqb (blockBit m (off + i / 8)) 1 ≡ true → unlike d (8 * off + i) (take 8 (drop i xs)) ≡ true
       → byteClash d m (8 * off + i) (drop i xs) ≡ true
   block-here b u = span-set d m (8 * off + i) (drop i xs) 8 (bits true b) ∙ rw u refl
 
-  block-same : eqb (bit m (off + i / 8)) 1 ≡ true → unlike d (8 * off + i) (take 8 (drop i xs)) ≡ false → Leads 8
+  block-same : eqb (blockBit m (off + i / 8)) 1 ≡ true → unlike d (8 * off + i) (take 8 (drop i xs)) ≡ false → Leads 8
   block-same b u = sym (span-set d m (8 * off + i) (drop i xs) 8 (bits true b) ∙ rw u (rest 8))
 
-  block-clear : eqb (bit m (off + i / 8)) 1 ≡ false → Leads 8
+  block-clear : eqb (blockBit m (off + i / 8)) 1 ≡ false → Leads 8
   block-clear b = sym (span-clear d m (8 * off + i) (drop i xs) 8 (bits false b) ∙ rest 8)
 
-  block-on : (eqb (bit m (off + i / 8)) 1 ≡ false) ⊎ (unlike d (8 * off + i) (take 8 (drop i xs)) ≡ false) → Leads 8
+  block-on : (eqb (blockBit m (off + i / 8)) 1 ≡ false) ⊎ (unlike d (8 * off + i) (take 8 (drop i xs)) ≡ false) → Leads 8
   block-on (inl b) = block-clear b
-  block-on (inr u) = go (eqb (bit m (off + i / 8)) 1) refl
+  block-on (inr u) = go (eqb (blockBit m (off + i / 8)) 1) refl
     where
-      go : (b : Bool) → eqb (bit m (off + i / 8)) 1 ≡ b → Leads 8
+      go : (b : Bool) → eqb (blockBit m (off + i / 8)) 1 ≡ b → Leads 8
       go true b = block-same b u
       go false b = block-clear b
 
@@ -148,11 +148,11 @@ module _ (d m : List ℕ) (off : ℕ) (xs : List ℕ) (i : ℕ) (whole : i % 8 �
   byte-clear : getD m ((off + i / 8) / 8) 0 ≡ 0 → Leads (8 * (8 - (off + i / 8) % 8))
   byte-clear z = sym (span-clear d m (8 * off + i) (drop i xs) (8 * (8 - (off + i / 8) % 8)) none ∙ rest (8 * (8 - (off + i / 8) % 8)))
     where
-      none : (j : ℕ) → 8 * off + i ≤ j → j < 8 * off + i + 8 * (8 - (off + i / 8) % 8) → eqb (bit m (j / 8)) 1 ≡ false
+      none : (j : ℕ) → 8 * off + i ≤ j → j < 8 * off + i + 8 * (8 - (off + i / 8) % 8) → eqb (blockBit m (j / 8)) 1 ≡ false
       none j lo hi = let q : j / 8 / 8 ≡ (off + i / 8) / 8 = omega arith in bit-none m (j / 8) (rw q z)
 
   pub leads-on : (n : ℕ) → n ≡ onward m (off + i / 8)
-      → (eqb (bit m (off + i / 8)) 1 ≡ false) ⊎ (unlike d (8 * off + i) (take 8 (drop i xs)) ≡ false) → Leads n
+      → (eqb (blockBit m (off + i / 8)) 1 ≡ false) ⊎ (unlike d (8 * off + i) (take 8 (drop i xs)) ≡ false) → Leads n
   leads-on n e h = rw e (onward-by m (off + i / 8) Leads (block-on h) byte-clear)
 
 pub byteClash-start : (d m : List ℕ) (k : ℕ) (xs : List ℕ) → byteClash d m (k + 0) (drop 0 xs) ≡ byteClash d m k xs

@@ -1,29 +1,57 @@
 -- What the public calls' tests tell, and the ways of their answers.
 use mathlib.Core.Path.{_≡_, refl, sym, ap, _∙_}
 use mathlib.Core.Bool.{Bool, true, false, _&&_, cond}
-use mathlib.Core.List.{List, [], _++_}
-use Prim.Native.Nat.{ℕ, _-_, _≤_}
+use mathlib.Core.List.{List, _++_}
+use Prim.Native.Nat.{ℕ, _+_, _*_, _/_, _%_, _≤_}
 use native.Mathlib.Omega.{arith}
 use lib.ListN.{length, take}
-use lib.Dec.{eqb}
-use borrow.Author.Tests.{eqb-true, eq-eqb}
-use Rattle.pkt.specs.Answers.{Answer, refused, gives, mapped}
-use Rattle.inspect.specs.Header.{lengthField}
+use lib.Dec.{leb, eqb}
+use borrow.Author.Tests.{leb-true, leb-false, le-leb, lt-leb, eqb-true, eq-eqb}
+use Rattle.pkt.specs.Answers.{Answer, refused, gives, andThen, mapped}
+use Rattle.inspect.specs.Header.{lengthField, dataOf}
+use Rattle.inspect.specs.declared.header.IpRead.{IpRead}
 use Rattle.assembly.specs.declared.Key.{Key}
 use Rattle.assembly.specs.declared.Rec.{Rec}
 use Rattle.assembly.specs.declared.Opened.{Opened}
 use Rattle.assembly.specs.declared.Opened.the-variants as opened
-use Rattle.assembly.specs.declared.Taken.{Taken}
-use Rattle.assembly.specs.declared.Taken.the-variants as taken
 use Rattle.assembly.specs.Piece.{Piece}
-use Rattle.assembly.specs.Assembly.{State, cleared, opened, step, totalFits, recordFits, valid, whole}
-use Rattle.assembly.specs.View.{view, recordOf}
-use Rattle.assembly.specs.Answers.{openedSays, takenSays, replyOf, payloadAfter, mapAfter, Moved}
-use Rattle.assembly.specs.Carried.{pieceAnswer}
-use Rattle.assembly.specs.Calls.{sized, usable, openAnswer, Opens, takeAnswer, Takes, shown}
+use Rattle.assembly.specs.Assembly.{State, cleared, opened, step, totalFits, recordFits, recordValid}
+use Rattle.assembly.specs.View.{view, recordOf, piece}
+use Rattle.assembly.specs.Answers.{openedSays, payloadAfter, mapAfter}
+use Rattle.assembly.specs.Carried.{pieceOf, fitAnswer, headAnswer, pieceAnswer}
+use Rattle.assembly.specs.Calls.{sized, usable, openAnswer, Opens, takeAnswer, ready, putAnswer}
 use Rattle.pkt.proofs.Choice.{and-both, pick-yes, pick-no}
 use Rattle.assembly.proofs.Steps.{record-of}
-use Rattle.assembly.proofs.Carrying.{carried-front}
+use Rattle.assembly.proofs.Carrying.{fit-maps, piece-by, carried-front}
+
+-- ---- putting, for any capacity
+
+-- as many bytes of a map as have a bit for each block of p bytes
+pub bits-enough : (p m : ℕ) → leb (p / 64 + (p % 64 + 63) / 64) m ≡ leb p (64 * m)
+bits-enough p m = go (leb p (64 * m)) refl
+  where
+    go : (b : Bool) → leb p (64 * m) ≡ b → leb (p / 64 + (p % 64 + 63) / 64) m ≡ b
+    go true e = le-leb (p / 64 + (p % 64 + 63) / 64) m (omega (arith, leb-true p (64 * m) e))
+    go false e = lt-leb (p / 64 + (p % 64 + 63) / 64) m (omega (arith, leb-false p (64 * m) e))
+
+pub record Ready (s : State) : Type 0 where
+  pub room : length (s .payload) ≤ 64 * length (s .map)
+  pub total-fits : totalFits (length (s .payload)) (s .total) ≡ true
+
+pub ready-is : (s : State) → ready s ≡ true → Ready s
+unfolding ready recordFits
+ready-is s e =
+    let t = and-both (leb (length (s .payload)) (64 * length (s .map))) (recordValid s) e in
+    record { room = leb-true _ _ (t .0); total-fits = and-both (totalFits (length (s .payload)) (s .total)) _ (t .1) .0 }
+
+pub put-eleven : (s : State) (h : IpRead) (b : List ℕ) → ready s ≡ false → putAnswer s h b ≡ refused 11
+unfolding putAnswer
+put-eleven s h b e = pick-no _ _ e
+
+pub put-by : (s : State) (h : IpRead) (b : List ℕ) (a : Answer IpRead) → ready s ≡ true → fitAnswer (length (s .payload)) 10 (length b) h ≡ a
+    → putAnswer s h b ≡ mapped (λ g. step s (piece (g .off) (g .mf) b)) a
+unfolding putAnswer
+put-by s h b a e f = pick-yes _ _ e ∙ ap (λ (x : Answer IpRead). mapped (λ g. step s (piece (g .off) (g .mf) b)) x) f
 
 module _ (C M : ℕ) where
   sized-is : (p m : ℕ) → sized C M p m ≡ true → (p ≡ C) × (m ≡ M)
@@ -38,11 +66,11 @@ module _ (C M : ℕ) where
   pub usable-is : (s : State) → usable C M s ≡ true → Usable s
   unfolding usable recordFits
   usable-is s e =
-      let t = and-both (sized C M (length (s .payload)) (length (s .map))) (valid s) e in
+      let t = and-both (sized C M (length (s .payload)) (length (s .map))) (recordValid s) e in
       let z = sized-is (length (s .payload)) (length (s .map)) (t .0) in
       record { payload-is = z .0; map-is = z .1; total-fits = and-both (totalFits (length (s .payload)) (s .total)) _ (t .1) .0 }
 
-  pub usable-of : (s : State) → length (s .payload) ≡ C → length (s .map) ≡ M → valid s ≡ true → usable C M s ≡ true
+  pub usable-of : (s : State) → length (s .payload) ≡ C → length (s .map) ≡ M → recordValid s ≡ true → usable C M s ≡ true
   unfolding usable sized
   usable-of s d m v = simp (eq-eqb _ _ d, eq-eqb _ _ m, v)
 
@@ -50,12 +78,12 @@ module _ (C M : ℕ) where
   pub usable-sized : (s : State) → sized C M (length (s .payload)) (length (s .map)) ≡ true → usable C M s ≡ recordFits C (s .total) (s .floor)
   unfolding usable
   usable-sized s e =
-      ap (λ (b : Bool). b && valid s) e
+      ap (λ (b : Bool). b && recordValid s) e
       ∙ ap (λ (n : ℕ). recordFits n (s .total) (s .floor)) (sized-is (length (s .payload)) (length (s .map)) e .0)
 
   pub usable-not : (s : State) → sized C M (length (s .payload)) (length (s .map)) ≡ false → usable C M s ≡ false
   unfolding usable
-  usable-not s e = ap (λ (b : Bool). b && valid s) e
+  usable-not s e = ap (λ (b : Bool). b && recordValid s) e
 
   -- Bytes after the total length are ignored.
   pub take-front : (s : State) (l r : List ℕ) → 20 ≤ lengthField l → lengthField l ≤ length l → takeAnswer C M s (take (lengthField l) l ++ r) ≡ takeAnswer C M s l
@@ -85,6 +113,10 @@ module _ (C M : ℕ) where
   unfolding openAnswer
   opens-no k d m e = opens-by k d m d m (opened.Refused 11) (refused 11) (pick-no _ _ e) refl refl refl
 
+  -- the same, where b is the answer of the test
+  pub opens-refused : (k : Key) (d m : List ℕ) (b : Bool) → b ≡ sized C M (length d) (length m) → b ≡ false → Opens C M k d m (opened.Refused 11) d m
+  opens-refused k d m b e q = opens-no k d m (sym e ∙ q)
+
   -- ---- taking
   pub take-eleven : (s : State) (l : List ℕ) → usable C M s ≡ false → takeAnswer C M s l ≡ refused 11
   unfolding takeAnswer
@@ -94,30 +126,25 @@ module _ (C M : ℕ) where
   unfolding takeAnswer
   take-by s l a e h = pick-yes _ _ e ∙ ap (λ (b : Answer Piece). mapped (step s) b) h
 
-  takes-by : (s : State) (l : List ℕ) (r : Taken) (d m : List ℕ) (a : Answer State) → takeAnswer C M s l ≡ a
-      → takenSays r ≡ mapped replyOf a → d ≡ payloadAfter a (s .payload) → m ≡ mapAfter a (s .map) → Takes C M s l r d m
-  takes-by s l r d m a e x y z =
-      record {
-        answer = x ∙ ap (λ (b : Answer State). mapped replyOf b) (sym e);
-        payload-is = y ∙ ap (λ (b : Answer State). payloadAfter b (s .payload)) (sym e);
-        map-is = z ∙ ap (λ (b : Answer State). mapAfter b (s .map)) (sym e);
-      }
+  -- An assembly that 11 does not refuse is ready, where the map has a bit for each block.
+  pub usable-ready : (s : State) → C ≤ 64 * M → usable C M s ≡ true → ready s ≡ true
+  unfolding usable ready
+  usable-ready s room e =
+      let t = and-both (sized C M (length (s .payload)) (length (s .map))) (recordValid s) e in
+      let z = sized-is (length (s .payload)) (length (s .map)) (t .0) in
+      let w = le-leb (length (s .payload)) (64 * length (s .map)) (omega (arith, z .0, z .1)) in
+      simp (w, t .1)
 
-  pub takes-refused : (s : State) (l : List ℕ) (n : ℕ) → takeAnswer C M s l ≡ refused n → Takes C M s l (taken.Refused n) (s .payload) (s .map)
-  takes-refused s l n e = takes-by s l (taken.Refused n) (s .payload) (s .map) (refused n) e refl refl refl
-
-  pub takes-moved : (s : State) (l : List ℕ) (r : Taken) (d m : List ℕ) (t : State) → takeAnswer C M s l ≡ gives t → Moved t r d m → Takes C M s l r d m
-  takes-moved s l r d m t e x = takes-by s l r d m (gives t) e (x .answered) (x .payload-is) (x .map-is)
-
-  -- ---- what is held
-  pub shown-yes : (s : State) → usable C M s ≡ true → shown C M s ≡ whole s
-  unfolding shown
-  shown-yes s e = pick-yes _ _ e
-
-  -- the first n bytes, as they are lent
-  pub shown-part : (s : State) (n : ℕ) → usable C M s ≡ true → whole s ≡ take n (s .payload) → take (n - 0) (s .payload) ≡ shown C M s
-  shown-part s n e h = let z : n - 0 ≡ n = omega arith in rw z (sym (shown-yes s e ∙ h))
-
-  pub shown-no : (s : State) → usable C M s ≡ false → shown C M s ≡ []
-  unfolding shown
-  shown-no s e = pick-no _ _ e
+  -- Taking a packet is putting the piece behind its header.
+  pub take-put : (s : State) (l : List ℕ) (h : IpRead) → C ≤ 64 * M → usable C M s ≡ true → headAnswer (s .key) l ≡ gives h
+      → takeAnswer C M s l ≡ putAnswer s h (dataOf h l)
+  take-put s l h room u e =
+      let c : length (s .payload) ≡ C = usable-is s u .payload-is in
+      take-by s l _ u (piece-by C (s .key) l (gives h) e)
+      ∙ twice (fitAnswer C 10 (length (dataOf h l)) h)
+      ∙ fit-maps (λ g. step s (pieceOf l g)) (λ g. step s (piece (g .off) (g .mf) (dataOf h l))) C 10 (length (dataOf h l)) h refl
+      ∙ sym (put-by s h (dataOf h l) _ (usable-ready s room u) (ap (λ (n : ℕ). fitAnswer n 10 (length (dataOf h l)) h) c))
+    where
+      twice : (a : Answer IpRead) → mapped (step s) (mapped (pieceOf l) a) ≡ mapped (λ g. step s (pieceOf l g)) a
+      twice (refused n) = refl
+      twice (gives g) = refl

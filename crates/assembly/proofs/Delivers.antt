@@ -5,20 +5,21 @@ use mathlib.Core.Bool.{Bool, true, false, not, _&&_, cond, true≢false}
 use mathlib.Core.List.{List, [], _∷_, List·Memᴰ, List·Memᴰ·head, List·Memᴰ·tail, List·Memᴰ·not-nil, List·Memᴰ·cases-cons}
 use Prim.Native.Nat.{ℕ, _*_, _≤_}
 use native.Mathlib.Omega.{arith}
-use lib.ListN.{length, length-replicate}
+use lib.ListN.{length, take, length-replicate}
 use Rattle.pkt.specs.Answers.{Answer, refused, gives, mapped}
 use Rattle.assembly.specs.declared.Key.{Key}
 use Rattle.assembly.specs.declared.Rec.{Rec}
 use Rattle.assembly.specs.declared.Opened.the-variants.{Open}
 use Rattle.assembly.specs.declared.Taken.{Taken}
 use Rattle.assembly.specs.Piece.{Piece, Acceptable, Contradictory, Same}
-use Rattle.assembly.specs.Assembly.{State, isWaiting, isComplete, isSpoilt, opened, step, run, heldTo, complete, outcome}
+use Rattle.assembly.specs.Assembly.{State, isWaiting, isComplete, isSpoilt, opened, step, run, heldTo, complete, heldBytes, outcome}
 use Rattle.assembly.specs.View.{view, recordOf}
-use Rattle.assembly.specs.Answers.{takenSays, replyOf, stateAfter, recAfter, payloadAfter, mapAfter}
+use Rattle.assembly.specs.Answers.{takenSays, replyOf, stateAfter, recAfter, payloadAfter, mapAfter, standing}
 use Rattle.assembly.specs.Carried.{pieceAnswer}
-use Rattle.assembly.specs.Calls.{capacity, mapBytes, sized, usable, openAnswer, Opens, takeAnswer, Takes}
+use Rattle.assembly.specs.Calls.{capacity, mapBytes, sized, usable, openAnswer, Opens, takeAnswer, Takes, standsAnswer, Gathered}
 use Rattle.assembly.specs.Demand as demand
 use Rattle.assembly.specs.Packets.{after, takeAll, Accepted, SamePieces, TwoContradict, Delivers}
+use Rattle.pkt.proofs.Choice.{pick-yes}
 use Rattle.assembly.proofs.Steps.{view-of}
 use Rattle.assembly.proofs.Pieces.{all-cons}
 use Rattle.assembly.proofs.Describes.{Describes, spoiled, sound, opened-describes, step-describes, run-describes, any-order, spoilt-exactly}
@@ -185,6 +186,12 @@ says-complete s = go (s .spoilt) (heldTo (s .map) (s .total))
     go true h = (λ e. let z : _≡_ {A = ℕ} 0 1 = cc in absurd (omega arith), λ e. absurd (true≢false (sym e)))
     go false true = (λ e. refl, λ e. refl)
     go false false = (λ e. let z : _≡_ {A = ℕ} 0 1 = cc in absurd (omega arith), λ e. absurd (true≢false (sym e)))
+
+-- `progress` answers that with the length of what is held.
+pub gathered : (ok : Bool) (s : State) (d : List ℕ) → ok ≡ true → complete s ≡ true → heldBytes s ≡ d → take (length d) (s .payload) ≡ d
+    → Gathered (standsAnswer ok s) (s .payload) d
+gathered ok s d o c w b =
+    record { told = pick-yes _ _ o ∙ (λ i. gives (standing (says-complete s .1 c i) (length (w i)))); bytes = b }
 
 -- demand 3 over packets, at document 01's sizes
 pub delivers-here : (k : Key) → Delivers capacity mapBytes k

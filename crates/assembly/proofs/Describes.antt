@@ -13,7 +13,7 @@ use lib.Seq.{sets, length-sets, ext-getD}
 use lib.Dec.{ltb, eqb}
 use borrow.Author.Tests.{ltb-true, ltb-false, leb-true, leb-false, eqb-true, eqb-false, not-true, not-false}
 use Rattle.assembly.specs.declared.Key.{Key}
-use Rattle.assembly.specs.Map.{bit, mark}
+use Rattle.assembly.specs.Map.{blockBit, mark}
 use Rattle.assembly.specs.Piece.{Piece, start, end, Holds, byteAt, Contradict, differ, two-ends, more-after, after-more, Acceptable, Contradictory, Same}
 use Rattle.assembly.specs.Assembly.{State, cleared, opened, byteClash, endClash, clashes, newTotal, newFloor, accept, step, run}
 use Rattle.pkt.proofs.Choice.{or-cases, or-no, both}
@@ -31,8 +31,8 @@ pub record Good (κ : Key) (C M : ℕ) (s : State) (ps : List Piece) : Type 0 wh
   pub is-map : IsMap M (s .map)
   pub byte-in : (p : Piece) → List·Memᴰ p ps → (k : ℕ) → Holds p k → getD (s .payload) k 0 ≡ byteAt p k
   pub byte-out : (k : ℕ) → None (λ p. Holds p k) ps → getD (s .payload) k 0 ≡ 0
-  pub bit-in : (p : Piece) → List·Memᴰ p ps → (b : ℕ) → Holds p (8 * b) → bit (s .map) b ≡ 1
-  pub bit-out : (b : ℕ) → None (λ p. Holds p (8 * b)) ps → bit (s .map) b ≡ 0
+  pub bit-in : (p : Piece) → List·Memᴰ p ps → (b : ℕ) → Holds p (8 * b) → blockBit (s .map) b ≡ 1
+  pub bit-out : (b : ℕ) → None (λ p. Holds p (8 * b)) ps → blockBit (s .map) b ≡ 0
   pub total-in : (p : Piece) → List·Memᴰ p ps → p .mf ≡ false → s .total ≡ some (end p)
   pub total-out : None (λ p. p .mf ≡ false) ps → s .total ≡ none
   pub floor-in : (p : Piece) → List·Memᴰ p ps → p .mf ≡ true → end p < s .floor
@@ -165,7 +165,7 @@ module _ (κ : Key) (C M : ℕ) (s : State) (ps : List Piece) (ok : (q : Piece) 
         is-map = map-mark M (s .map) (p .off) n (g .is-map);
         byte-in = all-cons {P = λ q. (k : ℕ) → Holds q k → getD (sets (s .payload) (start p) (p .body)) k 0 ≡ byteAt q k} own (λ q m k h. old q m k h (holds? p k));
         byte-out = λ k no-one. out k (no-one p (List·Memᴰ·head refl)) ∙ g .byte-out k (λ q m. no-one q (List·Memᴰ·tail m));
-        bit-in = all-cons {P = λ q. (b : ℕ) → Holds q (8 * b) → bit (mark (s .map) (p .off) n) b ≡ 1} own-bit (λ q m b h. old-bit q m b h (holds? p (8 * b)));
+        bit-in = all-cons {P = λ q. (b : ℕ) → Holds q (8 * b) → blockBit (mark (s .map) (p .off) n) b ≡ 1} own-bit (λ q m b h. old-bit q m b h (holds? p (8 * b)));
         bit-out = λ b no-one. out-bit b (no-one p (List·Memᴰ·head refl)) ∙ g .bit-out b (λ q m. no-one q (List·Memᴰ·tail m));
         total-in = all-cons {P = λ q. q .mf ≡ false → newTotal (p .mf) (s .total) (end p) ≡ some (end q)} (λ e. own-total (p .mf) e) (λ q m e. old-total q m e (p .mf) refl);
         total-out = λ no-one. out-total (p .mf) (no-one p (List·Memᴰ·head refl)) ∙ g .total-out (λ q m. no-one q (List·Memᴰ·tail m));
@@ -200,17 +200,17 @@ module _ (κ : Key) (C M : ℕ) (s : State) (ps : List Piece) (ok : (q : Piece) 
       old q m k h (yes y) = own k y ∙ same-byte q m k h y (ℕ-discrete (byteAt q k) (byteAt p k))
       old q m k h (no z) = out k z ∙ g .byte-in q m k h
 
-      own-bit : (b : ℕ) → Holds p (8 * b) → bit (mark (s .map) (p .off) n) b ≡ 1
+      own-bit : (b : ℕ) → Holds p (8 * b) → blockBit (mark (s .map) (p .off) n) b ≡ 1
       own-bit b h = bit-mark-in M (s .map) (p .off) n b (g .is-map) room-bits (omega arith) (omega arith)
 
-      out-bit : (b : ℕ) → (Holds p (8 * b) → ⊥) → bit (mark (s .map) (p .off) n) b ≡ bit (s .map) b
+      out-bit : (b : ℕ) → (Holds p (8 * b) → ⊥) → blockBit (mark (s .map) (p .off) n) b ≡ blockBit (s .map) b
       out-bit b h = bit-mark-out M (s .map) (p .off) n b (g .is-map) room-bits (λ lo. past (decLt (8 * b) (end p)) lo)
         where
           past : Dec (8 * b < end p) → p .off ≤ b → p .off + n ≤ b
           past (yes y) lo = absurd (h (record { from = omega arith; till = y }))
           past (no z) lo = omega arith
 
-      old-bit : (q : Piece) → List·Memᴰ q ps → (b : ℕ) → Holds q (8 * b) → Dec (Holds p (8 * b)) → bit (mark (s .map) (p .off) n) b ≡ 1
+      old-bit : (q : Piece) → List·Memᴰ q ps → (b : ℕ) → Holds q (8 * b) → Dec (Holds p (8 * b)) → blockBit (mark (s .map) (p .off) n) b ≡ 1
       old-bit q m b h (yes y) = own-bit b y
       old-bit q m b h (no z) = out-bit b z ∙ g .bit-in q m b h
 
@@ -303,7 +303,7 @@ one-good κ C M s s′ ps qs same g g′ =
     byte k (inl p) = g .byte-in (p .0) (p .1) k (p .2) ∙ sym (g′ .byte-in (p .0) (same .to (p .0) (p .1)) k (p .2))
     byte k (inr f) = g .byte-out k f ∙ sym (g′ .byte-out k (back f))
 
-    bits : (b : ℕ) → Some (λ p. Holds p (8 * b)) ps ⊎ None (λ p. Holds p (8 * b)) ps → bit (s .map) b ≡ bit (s′ .map) b
+    bits : (b : ℕ) → Some (λ p. Holds p (8 * b)) ps ⊎ None (λ p. Holds p (8 * b)) ps → blockBit (s .map) b ≡ blockBit (s′ .map) b
     bits b (inl p) = g .bit-in (p .0) (p .1) b (p .2) ∙ sym (g′ .bit-in (p .0) (same .to (p .0) (p .1)) b (p .2))
     bits b (inr f) = g .bit-out b f ∙ sym (g′ .bit-out b (back f))
 

@@ -13,7 +13,7 @@ use lib.Bits.{bitOr, or-lt}
 use lib.Pow.{pow-pos, pow-lt}
 use borrow.Author.Tests.{eqb-true, eq-eqb}
 use lib.Dec.{eqb}
-use Rattle.assembly.specs.Map.{bit, setBit, mark, marked}
+use Rattle.assembly.specs.Map.{blockBit, setBit, mark, marked}
 use Rattle.pkt.proofs.Choice.{and-both, both, fails}
 use Rattle.assembly.proofs.Bits.{or-bit, pow-bit-same, pow-bit-other, ones-bit, byte-ext}
 use Rattle.pkt.specs.Written.{zeros}
@@ -24,17 +24,17 @@ pub record IsMap (M : ℕ) (m : List ℕ) : Type 0 where
   pub bytes : (i : ℕ) → getD m i 0 < 2 ^ 8
 
 -- ---- one block
-bit-set-same : (m : List ℕ) (k : ℕ) → k / 8 < length m → bit (setBit m k) k ≡ 1
-unfolding bit setBit
+bit-set-same : (m : List ℕ) (k : ℕ) → k / 8 < length m → blockBit (setBit m k) k ≡ 1
+unfolding blockBit setBit
 bit-set-same m k h =
     rw (getD-set-same m (k / 8) (bitOr (getD m (k / 8) 0) (2 ^ (k % 8))) 0 h, or-bit, pow-bit-same)
     (omega arith)
 
-bit-set-other : (m : List ℕ) (k j : ℕ) → k / 8 < length m → j ≢ k → bit (setBit m k) j ≡ bit m j
-unfolding bit setBit
+bit-set-other : (m : List ℕ) (k j : ℕ) → k / 8 < length m → j ≢ k → blockBit (setBit m k) j ≡ blockBit m j
+unfolding blockBit setBit
 bit-set-other m k j h ne = go (ℕ-discrete (j / 8) (k / 8))
   where
-    go : Dec (j / 8 ≡ k / 8) → bit (setBit m k) j ≡ bit m j
+    go : Dec (j / 8 ≡ k / 8) → blockBit (setBit m k) j ≡ blockBit m j
     go (yes e) =
         rw (e, getD-set-same m (k / 8) (bitOr (getD m (k / 8) 0) (2 ^ (k % 8))) 0 h, or-bit, pow-bit-other (k % 8) (j % 8) (λ q. ne (omega arith)))
         (omega arith)
@@ -61,7 +61,7 @@ map-mark M m k zero im = im
 map-mark M m k (suc n) im = map-mark M (setBit m k) (suc k) n (map-set M m k im)
 
 -- out of the run nothing changes
-pub bit-mark-out : (M : ℕ) (m : List ℕ) (k n j : ℕ) → IsMap M m → k + n ≤ 8 * M → (k ≤ j → k + n ≤ j) → bit (mark m k n) j ≡ bit m j
+pub bit-mark-out : (M : ℕ) (m : List ℕ) (k n j : ℕ) → IsMap M m → k + n ≤ 8 * M → (k ≤ j → k + n ≤ j) → blockBit (mark m k n) j ≡ blockBit m j
 unfolding mark
 bit-mark-out M m k zero j im fits out = refl
 bit-mark-out M m k (suc n) j im fits out =
@@ -69,13 +69,13 @@ bit-mark-out M m k (suc n) j im fits out =
     ∙ bit-set-other m k j (rw (im .size) (omega arith)) (λ e. omega (arith, out (omega arith)))
 
 -- in the run all is marked
-pub bit-mark-in : (M : ℕ) (m : List ℕ) (k n j : ℕ) → IsMap M m → k + n ≤ 8 * M → k ≤ j → j < k + n → bit (mark m k n) j ≡ 1
+pub bit-mark-in : (M : ℕ) (m : List ℕ) (k n j : ℕ) → IsMap M m → k + n ≤ 8 * M → k ≤ j → j < k + n → blockBit (mark m k n) j ≡ 1
 unfolding mark
 bit-mark-in M m k zero j im fits lo hi = absurd (omega arith)
 bit-mark-in M m k (suc n) j im fits lo hi =
     go (λ h. bit-mark-in M (setBit m k) (suc k) n j (map-set M m k im) (omega arith) h (omega arith)) (ℕ-discrete j k)
   where
-    go : (suc k ≤ j → bit (mark (setBit m k) (suc k) n) j ≡ 1) → Dec (j ≡ k) → bit (mark (setBit m k) (suc k) n) j ≡ 1
+    go : (suc k ≤ j → blockBit (mark (setBit m k) (suc k) n) j ≡ 1) → Dec (j ≡ k) → blockBit (mark (setBit m k) (suc k) n) j ≡ 1
     go below (yes e) =
         rw e
         (bit-mark-out M (setBit m k) (suc k) n k (map-set M m k im) (omega arith) (λ h. absurd (omega arith))
@@ -83,8 +83,8 @@ bit-mark-in M m k (suc n) j im fits lo hi =
     go below (no ne) = below (omega arith)
 
 -- ---- the bits tell the map
-pub map-ext : (M : ℕ) (m m′ : List ℕ) → IsMap M m → IsMap M m′ → ((k : ℕ) → bit m k ≡ bit m′ k) → m ≡ m′
-unfolding bit
+pub map-ext : (M : ℕ) (m m′ : List ℕ) → IsMap M m → IsMap M m′ → ((k : ℕ) → blockBit m k ≡ blockBit m′ k) → m ≡ m′
+unfolding blockBit
 map-ext M m m′ im im′ h =
     ext-getD 0 m m′ (im .size ∙ sym (im′ .size))
     (λ i hi. byte-ext 8 (getD m i 0) (getD m′ i 0) (im .bytes i) (im′ .bytes i) (λ b hb. at i b hb))
@@ -106,8 +106,8 @@ getD-zeros n i = go (decLt i n)
 pub map-zeros : (M : ℕ) → IsMap M (zeros M)
 map-zeros M = record { size = length-replicate M 0; bytes = λ i. rw getD-zeros (pow-pos 8) }
 
-pub bit-zeros : (M k : ℕ) → bit (zeros M) k ≡ 0
-unfolding bit
+pub bit-zeros : (M k : ℕ) → blockBit (zeros M) k ≡ 0
+unfolding blockBit
 bit-zeros M k = rw (getD-zeros, zero-div) refl
 
 -- ---- marking goes on where it stands
@@ -138,12 +138,12 @@ mark-add m k (suc a) b =
     rw (e, f) (mark-add (setBit m k) (suc k) a b)
 
 -- ---- eight blocks that fill a byte
-bit-full-same : (m : List ℕ) (i j : ℕ) → i < length m → j / 8 ≡ i → bit (set m i 255) j ≡ 1
-unfolding bit
+bit-full-same : (m : List ℕ) (i j : ℕ) → i < length m → j / 8 ≡ i → blockBit (set m i 255) j ≡ 1
+unfolding blockBit
 bit-full-same m i j h e = rw (e, getD-set-same m i 255 0 h) (ones-bit 8 (j % 8) (omega arith))
 
-bit-full-other : (m : List ℕ) (i j : ℕ) → j / 8 ≢ i → bit (set m i 255) j ≡ bit m j
-unfolding bit
+bit-full-other : (m : List ℕ) (i j : ℕ) → j / 8 ≢ i → blockBit (set m i 255) j ≡ blockBit m j
+unfolding blockBit
 bit-full-other m i j ne = rw (getD-set-other m i (j / 8) 255 0 ne)
 
 mark-byte : (M : ℕ) (m : List ℕ) (i : ℕ) → IsMap M m → i < M → mark m (8 * i) 8 ≡ set m i 255
@@ -151,7 +151,7 @@ mark-byte M m i im h =
     map-ext M (mark m (8 * i) 8) (set m i 255) (map-mark M m (8 * i) 8 im) (map-byte M m i 255 (omega arith) im)
     (λ j. go j (ℕ-discrete (j / 8) i))
   where
-    go : (j : ℕ) → Dec (j / 8 ≡ i) → bit (mark m (8 * i) 8) j ≡ bit (set m i 255) j
+    go : (j : ℕ) → Dec (j / 8 ≡ i) → blockBit (mark m (8 * i) 8) j ≡ blockBit (set m i 255) j
     go j (yes e) =
         bit-mark-in M m (8 * i) 8 j im (omega arith) (omega arith) (omega arith)
         ∙ sym (bit-full-same m i j (rw (im .size) h) e)
@@ -190,33 +190,33 @@ mark-parts M m k to i j im h₁ h₂ h₃ h₄ =
     ∙ rw a (mark-add (mark m k (8 * i - k)) (8 * i) (8 * (j - i)) (to - 8 * j) ∙ rw (b, s) refl))
 
 -- ---- the first n blocks
-pub marked-true : (m : List ℕ) (n : ℕ) → marked m n ≡ true → (k : ℕ) → k < n → bit m k ≡ 1
+pub marked-true : (m : List ℕ) (n : ℕ) → marked m n ≡ true → (k : ℕ) → k < n → blockBit m k ≡ 1
 unfolding marked
 marked-true m zero e k h = absurd (omega arith)
-marked-true m (suc n) e k h = go (marked-true m n (and-both (eqb (bit m n) 1) (marked m n) e .1) k) (ℕ-discrete k n)
+marked-true m (suc n) e k h = go (marked-true m n (and-both (eqb (blockBit m n) 1) (marked m n) e .1) k) (ℕ-discrete k n)
   where
-    go : (k < n → bit m k ≡ 1) → Dec (k ≡ n) → bit m k ≡ 1
-    go below (yes q) = rw q (eqb-true _ _ (and-both (eqb (bit m n) 1) (marked m n) e .0))
+    go : (k < n → blockBit m k ≡ 1) → Dec (k ≡ n) → blockBit m k ≡ 1
+    go below (yes q) = rw q (eqb-true _ _ (and-both (eqb (blockBit m n) 1) (marked m n) e .0))
     go below (no ne) = below (omega arith)
 
-pub marked-of : (m : List ℕ) (n : ℕ) → ((k : ℕ) → k < n → bit m k ≡ 1) → marked m n ≡ true
+pub marked-of : (m : List ℕ) (n : ℕ) → ((k : ℕ) → k < n → blockBit m k ≡ 1) → marked m n ≡ true
 unfolding marked
 marked-of m zero h = refl
-marked-of m (suc n) h = rw (eq-eqb (bit m n) 1 (h n (omega arith))) (marked-of m n (λ k hk. h k (omega arith)))
+marked-of m (suc n) h = rw (eq-eqb (blockBit m n) 1 (h n (omega arith))) (marked-of m n (λ k hk. h k (omega arith)))
 
 pub marked-none : (m : List ℕ) → marked m 0 ≡ true
 unfolding marked
 marked-none m = refl
 
 -- one block more
-pub marked-next : (m : List ℕ) (k : ℕ) → marked m k ≡ true → eqb (bit m k) 1 ≡ true → marked m (k + 1) ≡ true
+pub marked-next : (m : List ℕ) (k : ℕ) → marked m k ≡ true → eqb (blockBit m k) 1 ≡ true → marked m (k + 1) ≡ true
 unfolding marked
 marked-next m k e b = let f : k + 1 ≡ suc k = omega arith in rw (f, b) e
 
 -- a block that is not marked
-pub marked-stop : (m : List ℕ) (k n : ℕ) → k < n → eqb (bit m k) 1 ≡ false → marked m n ≡ false
+pub marked-stop : (m : List ℕ) (k n : ℕ) → k < n → eqb (blockBit m k) 1 ≡ false → marked m n ≡ false
 marked-stop m k n h b =
-    fails (marked m n) (λ e. both (eq-eqb (bit m k) 1 (marked-true m n e k h)) b)
+    fails (marked m n) (λ e. both (eq-eqb (blockBit m k) 1 (marked-true m n e k h)) b)
 
 -- fewer blocks are not all marked
 pub marked-before : (m : List ℕ) (k n : ℕ) → k ≤ n → marked m k ≡ false → marked m n ≡ false
@@ -224,16 +224,16 @@ marked-before m k n h e = fails (marked m n) (λ t. both (marked-of m k (λ j hj
 
 -- a byte of ones: eight blocks more
 pub full-next : (m : List ℕ) (i : ℕ) → marked m (8 * i) ≡ true → getD m i 0 ≡ 255 → marked m (8 * (i + 1)) ≡ true
-unfolding bit
+unfolding blockBit
 full-next m i e v = marked-of m (8 * (i + 1)) (λ k hk. go k hk (decLt k (8 * i)))
   where
-    go : (k : ℕ) → k < 8 * (i + 1) → Dec (k < 8 * i) → bit m k ≡ 1
+    go : (k : ℕ) → k < 8 * (i + 1) → Dec (k < 8 * i) → blockBit m k ≡ 1
     go k hk (yes h) = marked-true m (8 * i) e k h
     go k hk (no h) = let q : k / 8 ≡ i = omega arith in rw (q, v) (ones-bit 8 (k % 8) (omega arith))
 
 -- any other byte
 pub full-stop : (m : List ℕ) (i n : ℕ) → i < n → getD m i 0 < 2 ^ 8 → (getD m i 0 ≡ 255 → ⊥) → marked m (8 * n) ≡ false
-unfolding bit
+unfolding blockBit
 full-stop m i n h b ne = fails (marked m (8 * n)) (λ e. ne (byte-ext 8 (getD m i 0) 255 b (omega arith) (λ j hj. at e j hj)))
   where
     at : marked m (8 * n) ≡ true → (j : ℕ) → j < 8 → getD m i 0 / 2 ^ j % 2 ≡ 255 / 2 ^ j % 2

@@ -11,8 +11,10 @@ use Rattle.assembly.specs.declared.Opened.the-variants as opened
 use Rattle.assembly.specs.declared.Taken.{Taken}
 use Rattle.assembly.specs.declared.Taken.the-variants as taken
 use Rattle.assembly.specs.Assembly.{State, Outcome, isWaiting, isComplete, isSpoilt}
-use Rattle.assembly.specs.Answers.{Reply, openedSays, takenSays}
-use Rattle.assembly.specs.Calls.{Opens, Takes}
+use Rattle.assembly.specs.declared.step.Progress.{Progress}
+use Rattle.assembly.specs.declared.step.Progress.the-variants as progress
+use Rattle.assembly.specs.Answers.{Reply, openedSays, takenSays, Steps, Standing, progressSays}
+use Rattle.assembly.specs.Calls.{Opens}
 
 openedOf : Answer Rec → Opened
 openedOf (gives r) = opened.Open r
@@ -47,10 +49,31 @@ takenOf-says (taken.Complete r) = refl
 takenOf-says (taken.Spoilt r) = refl
 takenOf-says (taken.Refused n) = refl
 
-pub takes-only : (C M : ℕ) (s : State) (l : List ℕ) (a b : Taken) (d₁ d₂ m₁ m₂ : List ℕ) → Takes C M s l a d₁ m₁ → Takes C M s l b d₂ m₂
-    → (a ≡ b) × (d₁ ≡ d₂) × (m₁ ≡ m₂)
-takes-only C M s l a b d₁ d₂ m₁ m₂ x y = (
-  told-once takenSays takenOf takenOf-says a b _ (x .answer) (y .answer),
+-- `take` and `any::put`, of which a is what they lead to from the state s
+pub steps-only : (a : Answer State) (s : State) (r t : Taken) (d₁ d₂ m₁ m₂ : List ℕ) → Steps a s r d₁ m₁ → Steps a s t d₂ m₂
+    → (r ≡ t) × (d₁ ≡ d₂) × (m₁ ≡ m₂)
+steps-only a s r t d₁ d₂ m₁ m₂ x y = (
+  told-once takenSays takenOf takenOf-says r t _ (x .answer) (y .answer),
   x .payload-is ∙ sym (y .payload-is),
   x .map-is ∙ sym (y .map-is),
 )
+
+progressWith : Outcome → ℕ → Progress
+progressWith isWaiting n = progress.Waiting
+progressWith isComplete n = progress.Complete n
+progressWith isSpoilt n = progress.Spoilt
+
+progressOf : Answer Standing → Progress
+progressOf (gives s) = progressWith (s .answer) (s .bytes)
+progressOf (refused n) = progress.Refused n
+
+progressOf-says : (r : Progress) → progressOf (progressSays r) ≡ r
+unfolding progressOf progressWith
+progressOf-says progress.Waiting = refl
+progressOf-says (progress.Complete n) = refl
+progressOf-says progress.Spoilt = refl
+progressOf-says (progress.Refused n) = refl
+
+-- `progress` and `any::progress`
+pub progress-only : (r s : Progress) (a : Answer Standing) → progressSays r ≡ a → progressSays s ≡ a → r ≡ s
+progress-only r s a x y = told-once progressSays progressOf progressOf-says r s a x y

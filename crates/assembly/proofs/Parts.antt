@@ -13,7 +13,7 @@ use Rattle.assembly.specs.declared.Key.{Key}
 use Rattle.assembly.specs.Piece.{Piece, end, Holds, byteAt, Contradict, differ, two-ends, more-after, after-more, Acceptable, Contradictory}
 use Rattle.assembly.specs.Map.{marked}
 use Rattle.assembly.specs.Assembly.{State, opened, run, heldTo, complete}
-use Rattle.assembly.specs.Cut.{cut, Part, Covers}
+use Rattle.assembly.specs.Cut.{requested, Part, Covers}
 use Rattle.pkt.proofs.Choice.{and-both}
 use Rattle.assembly.proofs.Marks.{marked-true, marked-of}
 use Rattle.assembly.proofs.Pieces.{Some, None, any, holds?}
@@ -49,8 +49,8 @@ pub record OfPayload (d : List ℕ) (p : Piece) : Type 0 where
   pub more : p .mf ≡ true → end p < length d
   pub whole : p .mf ≡ true → length (p .body) % 8 ≡ 0
 
-cut-of : (d : List ℕ) (off len : ℕ) → 8 * off ≤ length d → OfPayload d (cut d off len)
-unfolding cut
+cut-of : (d : List ℕ) (off len : ℕ) → 8 * off ≤ length d → OfPayload d (requested d off len)
+unfolding requested
 cut-of d off len h =
     record {
       below = omega (arith, size);
@@ -75,18 +75,18 @@ cut-of d off len h =
         rw (getD-drop f (take t d), z) (getD-take t d k 0 hi)
 
 -- Any cut, past the end too, is a whole number of blocks where more follow.
-pub cut-whole : (d : List ℕ) (off len : ℕ) → cut d off len .mf ≡ true → length (cut d off len .body) % 8 ≡ 0
-unfolding cut
-cut-whole d off len e =
+pub requested-whole : (d : List ℕ) (off len : ℕ) → requested d off len .mf ≡ true → length (requested d off len .body) % 8 ≡ 0
+unfolding requested
+requested-whole d off len e =
     let f : ℕ = min (8 * off) (length d) in
     let t : ℕ = min (8 * off + 8 * len) (length d) in
     let size : length (slice f t d) ≡ t - f = length-slice f t d (omega arith) in
     omega (arith, size, eqb-false t (length d) (not-true _ e))
 
 -- A cut past the end is empty, and ends where it starts.
-pub cut-past : (d : List ℕ) (off len : ℕ) → length d < 8 * off → end (cut d off len) ≡ 8 * off
-unfolding cut
-cut-past d off len h =
+pub requested-past : (d : List ℕ) (off len : ℕ) → length d < 8 * off → end (requested d off len) ≡ 8 * off
+unfolding requested
+requested-past d off len h =
     let f : ℕ = min (8 * off) (length d) in
     let t : ℕ = min (8 * off + 8 * len) (length d) in
     let size : length (slice f t d) ≡ t - f = length-slice f t d (omega arith) in

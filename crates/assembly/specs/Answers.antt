@@ -2,13 +2,17 @@
 use mathlib.Core.Path.{_≡_}
 use Prim.Native.Nat.{ℕ}
 use mathlib.Core.List.{List}
-use Rattle.pkt.specs.Answers.{Answer, refused, gives}
+use lib.ListN.{length}
+use Rattle.pkt.specs.Answers.{Answer, refused, gives, mapped}
 use Rattle.assembly.specs.declared.Rec.{Rec}
 use Rattle.assembly.specs.declared.Opened.{Opened}
 use Rattle.assembly.specs.declared.Opened.the-variants as opened
 use Rattle.assembly.specs.declared.Taken.{Taken}
 use Rattle.assembly.specs.declared.Taken.the-variants as taken
-use Rattle.assembly.specs.Assembly.{State, Outcome, isWaiting, isComplete, isSpoilt, outcome}
+use Rattle.assembly.specs.declared.step.Progress.{Progress}
+use Rattle.assembly.specs.declared.step.Progress.the-variants as progress
+use Rattle.assembly.specs.Piece.{Piece}
+use Rattle.assembly.specs.Assembly.{State, Outcome, isWaiting, isComplete, isSpoilt, outcome, step, heldBytes}
 use Rattle.assembly.specs.View.{recordOf}
 
 abbrev pub openedSays : Opened → Answer Rec
@@ -50,8 +54,29 @@ abbrev pub mapAfter : Answer State → List ℕ → List ℕ
 mapAfter (gives t) m = t .map
 mapAfter (refused n) m = m
 
--- the state after a step: the answer with the record, and both buffers
-pub record Moved (s : State) (r : Taken) (d m : List ℕ) : Type 0 where
-  pub answered : takenSays r ≡ gives (replyOf s)
-  pub payload-is : d ≡ s .payload
-  pub map-is : m ≡ s .map
+-- A call that takes a piece: a is what it leads to from the state s, r the answer, d and m are the buffers after.
+pub record Steps (a : Answer State) (s : State) (r : Taken) (d m : List ℕ) : Type 0 where
+  pub answer : takenSays r ≡ mapped replyOf a
+  pub payload-is : d ≡ payloadAfter a (s .payload)
+  pub map-is : m ≡ mapAfter a (s .map)
+
+-- .. and this one is a step by the piece p
+abbrev pub Moves : State → Piece → Taken → List ℕ → List ℕ → Type 0
+Moves s p r d m = Steps (gives (step s p)) s r d m
+
+-- how an assembly stands: "waiting, complete or spoilt", and how many bytes a complete datagram has; 0 of any other
+pub record Standing : Type 0 where
+  pub answer : Outcome
+  pub bytes : ℕ
+
+abbrev pub standing : Outcome → ℕ → Standing
+standing o n = record { answer = o; bytes = n }
+
+abbrev pub standingOf : State → Standing
+standingOf s = standing (outcome s) (length (heldBytes s))
+
+abbrev pub progressSays : Progress → Answer Standing
+progressSays progress.Waiting = gives (standing isWaiting 0)
+progressSays (progress.Complete n) = gives (standing isComplete n)
+progressSays progress.Spoilt = gives (standing isSpoilt 0)
+progressSays (progress.Refused n) = refused n

@@ -8,7 +8,7 @@ use lib.ListN.{length, getD, take}
 use lib.Seq.{sets}
 use lib.Dec.{leb, ltb, eqb}
 use Rattle.assembly.specs.declared.Key.{Key}
-use Rattle.assembly.specs.Map.{bit, mark, marked}
+use Rattle.assembly.specs.Map.{blockBit, mark, marked}
 use Rattle.assembly.specs.Piece.{Piece, start, end}
 use Rattle.pkt.specs.Written.{zeros}
 
@@ -32,7 +32,7 @@ opened k C M = cleared k C M false
 -- "A new piece is tested against blocks whose bit is set": payload, map, the place of the data's first byte, data
 unfoldable pub byteClash : List ℕ → List ℕ → ℕ → List ℕ → Bool
 byteClash d m k [] = false
-byteClash d m k (x ∷ xs) = (eqb (bit m (k / 8)) 1 && not (eqb (getD d k 0) x)) || byteClash d m (suc k) xs
+byteClash d m k (x ∷ xs) = (eqb (blockBit m (k / 8)) 1 && not (eqb (getD d k 0) x)) || byteClash d m (suc k) xs
 
 -- ".. the total and the floor": total, floor, MF, end
 unfoldable pub endClash : Option ℕ → ℕ → Bool → ℕ → Bool
@@ -91,8 +91,8 @@ totalFits C (some t) = leb t C
 unfoldable pub recordFits : ℕ → Option ℕ → ℕ → Bool
 recordFits C t f = totalFits C t && leb f (8 * (C / 8) + 1)
 
-abbrev pub valid : State → Bool
-valid s = recordFits (length (s .payload)) (s .total) (s .floor)
+abbrev pub recordValid : State → Bool
+recordValid s = recordFits (length (s .payload)) (s .total) (s .floor)
 
 -- "Complete: total known and every byte below it held."
 unfoldable pub complete : State → Bool
@@ -104,8 +104,8 @@ bytesBelow none d = []
 bytesBelow (some t) d = take t d
 
 -- what is held of a complete datagram; nothing of any other
-unfoldable pub whole : State → List ℕ
-whole s = cond (complete s) (bytesBelow (s .total) (s .payload)) []
+unfoldable pub heldBytes : State → List ℕ
+heldBytes s = cond (complete s) (bytesBelow (s .total) (s .payload)) []
 
 -- "Each accepted call answers waiting, complete or spoilt."
 pub data Outcome : Type 0 where

@@ -26,18 +26,18 @@ pieceOf l h = piece (h .off) (h .mf) (dataOf h l)
 unfoldable pub broken : Bool → ℕ → Bool
 broken mf n = mf && not (eqb (n % 8) 0)
 
--- 9, then 10: "end above 65,515"; C is the payload buffer's size and n the data length
-unfoldable pub fitAnswer : ℕ → ℕ → IpRead → Answer IpRead
-fitAnswer C n h = cond (broken (h .mf) n) (refused 9) (cond (ltb C (8 * h .off + n)) (refused 10) (gives h))
+-- 9, then the number `far`: the end is above C, the payload buffer's size; n is the data length
+unfoldable pub fitAnswer : ℕ → ℕ → ℕ → IpRead → Answer IpRead
+fitAnswer C far n h = cond (broken (h .mf) n) (refused 9) (cond (ltb C (8 * h .off + n)) (refused far) (gives h))
 
--- 8: "key differs from the assembly's"; then 9 and 10
-unfoldable pub judgeAnswer : ℕ → Key → ℕ → IpRead → Answer IpRead
-judgeAnswer C k n h = cond (sameKey (keyOf h) k) (fitAnswer C n h) (refused 8)
+-- 8: "key differs from the assembly's"
+unfoldable pub keyedAnswer : Key → IpRead → Answer IpRead
+keyedAnswer k h = cond (sameKey (keyOf h) k) (gives h) (refused 8)
 
--- "4 (under 20), 5, 6, 4 (total), 7, 8, 9, 10", or the header
-unfoldable pub headAnswer : ℕ → Key → List ℕ → Answer IpRead
-headAnswer C k l = andThen (readAnswer l) (λ h. judgeAnswer C k (length (dataOf h l)) h)
+-- "4 (under 20), 5, 6, 4 (total), 7, 8", or the header
+unfoldable pub headAnswer : Key → List ℕ → Answer IpRead
+headAnswer k l = andThen (readAnswer l) (keyedAnswer k)
 
--- .. or the piece
+-- .. then "9, 10", of which 10 is "end above 65,515", or the piece
 unfoldable pub pieceAnswer : ℕ → Key → List ℕ → Answer Piece
-pieceAnswer C k l = mapped (pieceOf l) (headAnswer C k l)
+pieceAnswer C k l = andThen (headAnswer k l) (λ h. mapped (pieceOf l) (fitAnswer C 10 (length (dataOf h l)) h))

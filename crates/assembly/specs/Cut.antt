@@ -10,8 +10,8 @@ use Rattle.assembly.specs.Piece.{Piece, Holds}
 
 -- "For a payload of n bytes, a request (off, len) in blocks carries bytes min(8·off, n) up to, not including, min(8·off + 8·len, n).
 -- MF is set exactly if that end is not n .. The offset field is off even past the end."
-unfoldable pub cut : List ℕ → ℕ → ℕ → Piece
-cut d off len =
+unfoldable pub requested : List ℕ → ℕ → ℕ → Piece
+requested d off len =
     record {
       off = off;
       mf = not (eqb (min (8 * off + 8 * len) (length d)) (length d));
@@ -23,7 +23,7 @@ pub record Part (d : List ℕ) (p : Piece) : Type 0 where
   pub off : ℕ
   pub len : ℕ
   pub within : 8 * off ≤ length d
-  pub built : p ≡ cut d off len
+  pub built : p ≡ requested d off len
 
 -- together the pieces hold every place below n
 unfoldable pub Covers : List Piece → ℕ → Type 0

@@ -8,8 +8,8 @@ use Prim.Native.Nat.{ℕ, _*_, _≤_, _<_}
 use lib.ListN.{length, take}
 use Rattle.assembly.specs.declared.Key.{Key}
 use Rattle.assembly.specs.Piece.{Piece, Contradict, Acceptable, Contradictory, Same}
-use Rattle.assembly.specs.Assembly.{opened, run, complete, valid, whole}
-use Rattle.assembly.specs.Cut.{cut, Part, Covers}
+use Rattle.assembly.specs.Assembly.{opened, run, complete, recordValid, heldBytes}
+use Rattle.assembly.specs.Cut.{requested, Part, Covers}
 
 -- each of ps is acceptable
 abbrev pub AllAcceptable : ℕ → List Piece → Type 0
@@ -34,11 +34,11 @@ pub record Assembles (k : Key) (C M : ℕ) : Type 0 where
   pub held : (d : List ℕ) → length d ≤ C → (ps : List Piece) → Built d ps → complete (run (opened k C M) ps) ≡ true
       → (run (opened k C M) ps .total ≡ some (length d)) × (take (length d) (run (opened k C M) ps .payload) ≡ d)
   -- [so what is held of the complete datagram is that payload]
-  pub held-whole : (d : List ℕ) → length d ≤ C → (ps : List Piece) → Built d ps → complete (run (opened k C M) ps) ≡ true → whole (run (opened k C M) ps) ≡ d
+  pub held-whole : (d : List ℕ) → length d ≤ C → (ps : List Piece) → Built d ps → complete (run (opened k C M) ps) ≡ true → heldBytes (run (opened k C M) ps) ≡ d
   -- The demands' story: "asked for one piece past the payload's end", which contradicts the last piece of the same payload
-  pub past-end : (d : List ℕ) (off len : ℕ) → length d < 8 * off → (p : Piece) → Part d p → p .mf ≡ false → Contradict (cut d off len) p
+  pub past-end : (d : List ℕ) (off len : ℕ) → length d < 8 * off → (p : Piece) → Part d p → p .mf ≡ false → Contradict (requested d off len) p
   -- .. so with both among the accepted pieces, whichever came first, the state is spoilt
   pub past-end-spoils : (d : List ℕ) (off len : ℕ) → length d < 8 * off → (p : Piece) → Part d p → p .mf ≡ false
-      → (ps : List Piece) → AllAcceptable C ps → List·Memᴰ (cut d off len) ps → List·Memᴰ p ps → run (opened k C M) ps .spoilt ≡ true
+      → (ps : List Piece) → AllAcceptable C ps → List·Memᴰ (requested d off len) ps → List·Memᴰ p ps → run (opened k C M) ps .spoilt ≡ true
   -- and no state that accepted pieces lead to is refused by 11
-  pub stays-valid : (ps : List Piece) → AllAcceptable C ps → valid (run (opened k C M) ps) ≡ true
+  pub stays-valid : (ps : List Piece) → AllAcceptable C ps → recordValid (run (opened k C M) ps) ≡ true

@@ -7,8 +7,8 @@ use lib.Bits.{bitOr}
 use lib.Dec.{eqb}
 
 -- block k of the map: 1 if it is marked, else 0
-unfoldable pub bit : List ℕ → ℕ → ℕ
-bit m k = getD m (k / 8) 0 / 2 ^ (k % 8) % 2
+unfoldable pub blockBit : List ℕ → ℕ → ℕ
+blockBit m k = getD m (k / 8) 0 / 2 ^ (k % 8) % 2
 
 -- the map with block k marked
 unfoldable pub setBit : List ℕ → ℕ → List ℕ
@@ -22,4 +22,4 @@ mark m k (suc n) = mark (setBit m k) (suc k) n
 -- whether the first n blocks are marked
 unfoldable pub marked : List ℕ → ℕ → Bool
 marked m zero = true
-marked m (suc n) = eqb (bit m n) 1 && marked m n
+marked m (suc n) = eqb (blockBit m n) 1 && marked m n

@@ -1,19 +1,23 @@
 // One datagram in progress: its pieces are taken in any order, and the state they end in does not show which.
+pub mod any;
 mod buffer;
-mod carried;
+pub mod carried;
 mod compare;
 mod map;
 mod record;
 mod step;
 
 use inspect::header::Seen;
+use pkt::limit;
 use pkt::refusal;
+pub use step::Progress;
 ghost use mathlib.Core.Path.{_≡_};
 ghost use Rattle.assembly.specs.View.{view};
-ghost use Rattle.assembly.specs.Calls.{capacity, mapBytes, sized, usable, Opens, Takes, shown};
+ghost use Rattle.assembly.specs.Answers.{progressSays};
+ghost use Rattle.assembly.specs.Calls.{capacity, mapBytes, sized, usable, Opens, Takes, progressAnswer};
 
 // The sizes of the payload buffer and of the map.
-const CAPACITY: usize = 65515;
+const CAPACITY: usize = limit::IP_PAYLOAD;
 
 const MAP_BYTES: usize = 1024;
 
@@ -82,29 +86,29 @@ fn is_usable(rec: Rec, payload: &[u8], map: &[u8]) -> bool
 
 // Takes the piece that a packet carries, or refuses it and leaves the buffers as they were. The data is looked at where it lies.
 pub fn take(rec: Rec, packet: &[u8], payload: &mut [u8], map: &mut [u8]) -> Taken
-    ensures { λ r. ⌜ Takes capacity mapBytes (view rec (now (payload .entry)) (now (map .entry))) (now (packet .entry)) r (now (payload .exit)) (now (map .exit)) ⌝ }
+    ensures { λ r. ⌜ Takes capacity mapBytes (view rec (now (payload .entry)) (now (map .entry))) (now (packet .entry)) r
+        (now (payload .exit)) (now (map .exit)) ⌝ }
 {
     if !is_usable(rec, payload, map) {
         return Taken::Refused(refusal::BAD_ASSEMBLY);
     }
     let key = rec.key;
-    match carried::read(CAPACITY, key, packet) {
+    match carried::read(key, packet) {
         Seen::Refused(number) => Taken::Refused(number),
         Seen::Packet(h) => {
             let start = h.start;
             let end = h.end;
-            step::take(payload, map, rec, h.off as usize, h.mf, &packet[start..end])
+            any::put(rec, h, &packet[start..end], payload, map)
         }
     }
 }
 
-// What is held of a complete datagram, as a part of the payload buffer; nothing of one that is not complete.
-pub fn held<'a>(rec: Rec, payload: &'a [u8], map: &[u8]) -> &'a [u8]
-    ensures { λ r. ⌜ now r ≡ shown capacity mapBytes (view rec (now (payload .entry)) (now (map .entry))) ⌝ }
+// How the assembly stands: a complete datagram is the first so many bytes of the payload buffer.
+pub fn progress(rec: Rec, payload: &[u8], map: &[u8]) -> Progress
+    ensures { λ r. ⌜ progressSays r ≡ progressAnswer capacity mapBytes (view rec (now (payload .entry)) (now (map .entry))) ⌝ }
 {
-    if is_usable(rec, payload, map) {
-        let n = step::held_len(map, rec);
-        return &payload[0..n];
+    if !is_usable(rec, payload, map) {
+        return Progress::Refused(refusal::BAD_ASSEMBLY);
     }
-    &payload[0..0]
+    any::progress(rec, payload, map)
 }

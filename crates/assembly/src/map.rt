@@ -4,7 +4,7 @@ ghost use mathlib.Core.Path.{_≡_};
 ghost use mathlib.Core.Bool.{true};
 ghost use Prim.Native.Nat.{_-_, _*_, _%_, _^_, _<_, _≤_};
 ghost use lib.Dec.{eqb};
-ghost use Rattle.assembly.specs.Map.{bit, mark, marked};
+ghost use Rattle.assembly.specs.Map.{blockBit, mark, marked};
 
 // The bit of block k within its byte.
 fn mask(k: usize) -> u8
@@ -16,7 +16,7 @@ fn mask(k: usize) -> u8
 // Whether block k is marked.
 pub(crate) fn is_marked(map: &[u8], k: usize) -> bool
     requires { do ⌜ k < 8 * (← ⟦map.len()⟧) ⌝ }
-    ensures { λ r. ⌜ r ≡ eqb (bit (now (map .entry)) k) 1 ⌝ }
+    ensures { λ r. ⌜ r ≡ eqb (blockBit (now (map .entry)) k) 1 ⌝ }
 {
     let b = k / 8;
     (map[b] >> (k % 8) as u32) % 2 == 1

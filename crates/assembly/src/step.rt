@@ -12,10 +12,18 @@ ghost use mathlib.Core.Bool.{true};
 ghost use mathlib.Core.List.{List};
 ghost use Prim.Native.Nat.{ℕ, _+_, _*_, _/_, _≤_};
 ghost use lib.ListN.{length, take};
-ghost use Rattle.assembly.specs.Assembly.{cleared, clashes, accept, step, heldTo, outcome, totalFits, bytesBelow, whole};
+ghost use Rattle.assembly.specs.Assembly.{cleared, clashes, accept, step, heldTo, outcome, totalFits, bytesBelow};
 ghost use Rattle.pkt.specs.Answers.{gives};
 ghost use Rattle.assembly.specs.View.{totalOf, view, piece};
-ghost use Rattle.assembly.specs.Answers.{takenSays, reply, Moved};
+ghost use Rattle.assembly.specs.Answers.{takenSays, reply, Moves, standingOf, progressSays};
+
+// How an assembly stands: a complete datagram with its length, or a refusal's number.
+pub enum Progress {
+    Waiting,
+    Complete(usize),
+    Spoilt,
+    Refused(u8),
+}
 
 // How many blocks n bytes from a block's first on lie in.
 fn blocks(n: usize) -> usize
@@ -57,7 +65,8 @@ fn contradicts(payload: &[u8], map: &[u8], rec: Rec, off: usize, mf: bool, body:
 fn merge(payload: &mut [u8], map: &mut [u8], rec: Rec, off: usize, mf: bool, body: &[u8]) -> Rec
     requires { do ⌜ 8 * off + (← ⟦body.len()⟧) ≤ (← ⟦payload.len()⟧) ⌝ }
     requires { do ⌜ (← ⟦payload.len()⟧) ≤ 64 * (← ⟦map.len()⟧) ⌝ }
-    ensures { λ r. ⌜ view r (now (payload .exit)) (now (map .exit)) ≡ accept (view rec (now (payload .entry)) (now (map .entry))) (piece off mf (now (body .entry))) ⌝ }
+    ensures { λ r. ⌜ view r (now (payload .exit)) (now (map .exit))
+        ≡ accept (view rec (now (payload .entry)) (now (map .entry))) (piece off mf (now (body .entry))) ⌝ }
 {
     let end = 8 * off + body.len();
     buffer::copy_in(payload, 8 * off, body);
@@ -86,7 +95,8 @@ pub(crate) fn put(
 ) -> Rec
     requires { do ⌜ 8 * off + (← ⟦body.len()⟧) ≤ (← ⟦payload.len()⟧) ⌝ }
     requires { do ⌜ (← ⟦payload.len()⟧) ≤ 64 * (← ⟦map.len()⟧) ⌝ }
-    ensures { λ r. ⌜ view r (now (payload .exit)) (now (map .exit)) ≡ step (view rec (now (payload .entry)) (now (map .entry))) (piece off mf (now (body .entry))) ⌝ }
+    ensures { λ r. ⌜ view r (now (payload .exit)) (now (map .exit))
+        ≡ step (view rec (now (payload .entry)) (now (map .entry))) (piece off mf (now (body .entry))) ⌝ }
 {
     let spoilt = rec.spoilt;
     if spoilt {
@@ -149,25 +159,25 @@ pub(crate) fn take(
     requires { do ⌜ 8 * off + (← ⟦body.len()⟧) ≤ (← ⟦payload.len()⟧) ⌝ }
     requires { do ⌜ (← ⟦payload.len()⟧) ≤ 64 * (← ⟦map.len()⟧) ⌝ }
     requires { do ⌜ totalFits (← ⟦payload.len()⟧) (totalOf (rec .total)) ≡ true ⌝ }
-    ensures { λ r. ⌜ Moved (step (view rec (now (payload .entry)) (now (map .entry))) (piece off mf (now (body .entry)))) r (now (payload .exit)) (now (map .exit)) ⌝ }
+    ensures { λ r. ⌜ Moves (view rec (now (payload .entry)) (now (map .entry))) (piece off mf (now (body .entry))) r (now (payload .exit)) (now (map .exit)) ⌝ }
 {
     let next = put(payload, map, rec, off, mf, body);
     answered(map, next)
 }
 
-// How many bytes are held of a complete datagram; 0 of any other.
-pub(crate) fn held_len(map: &[u8], rec: Rec) -> usize
+// How a record stands whose total fits its map and its payload buffer d.
+pub(crate) fn standing(map: &[u8], rec: Rec) -> Progress
     requires { do ⌜ totalFits (64 * (← ⟦map.len()⟧)) (totalOf (rec .total)) ≡ true ⌝ }
-    ensures { λ r. ⌜ ((d : List ℕ) → whole (view rec d (now (map .entry))) ≡ take r d) ⌝ }
-    ensures { λ r. ⌜ ((n : ℕ) → totalFits n (totalOf (rec .total)) ≡ true → r ≤ n) ⌝ }
+    ensures { λ r. ⌜ ((d : List ℕ) → totalFits (length d) (totalOf (rec .total)) ≡ true
+        → progressSays r ≡ gives (standingOf (view rec d (now (map .entry))))) ⌝ }
 {
     let spoilt = rec.spoilt;
     if spoilt {
-        return 0;
+        return Progress::Spoilt;
     }
     let total = rec.total;
     if held_to(map, total) {
-        return known(total);
+        return Progress::Complete(known(total));
     }
-    0
+    Progress::Waiting
 }

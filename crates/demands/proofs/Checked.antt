@@ -20,7 +20,7 @@ use Rattle.pkt.specs.declared.ipv4.«icmp_echo_hdr».{«icmp_echo_hdr»}
 use Rattle.pkt.specs.Fields.{Bytes}
 use Rattle.pkt.proofs.Choice.{or-no}
 use Rattle.pkt.proofs.Headers.{tcp-length, udp-length, echo-length}
-use Rattle.ezpkt.specs.Build.{flowIp, tcpHdr, tcpPacket, udpHdr, udpField, udpPacket, echoType, echoPacket, startOf, endOf, more, pieceIp, piecePacket, packetOf, answerOf}
+use Rattle.ezpkt.specs.Build.{flowIp, tcpHdr, tcpPacket, udpHdr, udpField, udpPacket, echoType, echoPacket, startOf, endOf, moreFollow, pieceIp, piecePacket, packetOf, answerOf}
 use Rattle.ezpkt.specs.declared.build.TcpSegment.{TcpSegment}
 use Rattle.ezpkt.specs.declared.build.UdpDatagram.{UdpDatagram}
 use Rattle.ezpkt.specs.declared.build.IcmpEcho.{IcmpEcho}
@@ -75,7 +75,7 @@ unfolding udpPacket readOf
 udp-checked u p r range bp few =
     let h : «ip_hdr» = flowIp 17 (28 + length p) (u .«frag_off») (u .saddr) (u .daddr) in
     let x : «udp_hdr» = udpHdr u (length p) in
-    let c : ℕ = udpField u x p in
+    let c : ℕ = udpField u p in
     let d : List ℕ = udpHeader x c ++ p in
     let size : length d ≡ 8 + length p = length-append (udpHeader x c) p ∙ ap (λ (n : ℕ). n + length p) (udp-length x c) in
     let fit = flow-fit 17 (28 + length p) (u .«frag_off») (u .saddr) (u .daddr) (omega arith) (omega arith) (range .0) (range .1) in
@@ -108,17 +108,17 @@ module _ (q : IpPiece) (p : List ℕ) where
   pieced start end m = partAnswer (readOf (pieceIp q (20 + (end - start)) m)) (slice start end p)
 
   -- One that is no piece is the whole datagram.
-  whole-piece : more q (length p) || not (eqb (q .off) 0) ≡ false
-      → pieced (startOf q (length p)) (endOf q (length p)) (more q (length p)) ≡ partAnswer (readOf (pieceIp q (20 + length p) false)) p
+  whole-piece : moreFollow q (length p) || not (eqb (q .off) 0) ≡ false
+      → pieced (startOf q (length p)) (endOf q (length p)) (moreFollow q (length p)) ≡ partAnswer (readOf (pieceIp q (20 + length p) false)) p
   unfolding pieced
   whole-piece e =
-      let w = or-no (more q (length p)) (not (eqb (q .off) 0)) e in
+      let w = or-no (moreFollow q (length p)) (not (eqb (q .off) 0)) e in
       let at-end : endOf q (length p) ≡ length p = eqb-true (endOf q (length p)) (length p) (not-false _ (w .0)) in
       let zero-off : q .off ≡ 0 = eqb-true (q .off) 0 (not-false _ (w .1)) in
       let at-start : startOf q (length p) ≡ 0 = omega arith in
       let n : length p - 0 ≡ length p = omega arith in
-      ap (λ (k : ℕ). pieced k (endOf q (length p)) (more q (length p))) at-start
-      ∙ ap (λ (k : ℕ). pieced 0 k (more q (length p))) at-end
+      ap (λ (k : ℕ). pieced k (endOf q (length p)) (moreFollow q (length p))) at-start
+      ∙ ap (λ (k : ℕ). pieced 0 k (moreFollow q (length p))) at-end
       ∙ ap (λ (m : Bool). pieced 0 (length p) m) (w .0)
       ∙ ap (λ (k : ℕ). partAnswer (readOf (pieceIp q (20 + k) false)) (take (length p) p)) n
       ∙ ap (partAnswer (readOf (pieceIp q (20 + length p) false))) (take-length p)
@@ -128,7 +128,7 @@ module _ (q : IpPiece) (p : List ℕ) where
   piece-checked r fits off few =
       let start : ℕ = startOf q (length p) in
       let end : ℕ = endOf q (length p) in
-      let m : Bool = more q (length p) in
+      let m : Bool = moreFollow q (length p) in
       let h : «ip_hdr» = pieceIp q (20 + (end - start)) m in
       let d : List ℕ = slice start end p in
       let size : length d ≡ end - start = length-slice start end p (omega arith) in

@@ -9,3 +9,5 @@ pub mod Refusals
 pub mod Completing
 pub mod Round
 pub mod Worked
+pub mod Gathering
+pub mod Demands

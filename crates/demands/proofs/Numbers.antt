@@ -1,30 +1,31 @@
 -- The numbers that a call can give: each decision is a chain of tests, and each test names its number.
 use mathlib.Core.Path.{_≡_, refl, sym, subst, _∙_}
-use mathlib.Core.Bool.{Bool, true, false, not, cond, true≢false}
+use mathlib.Core.Bool.{Bool, true, false, not, _||_, cond, true≢false}
 use mathlib.Core.List.{List, [], _∷_}
 use Prim.Native.Nat.{ℕ, zero, suc, _+_, _*_, _<_}
 use native.Mathlib.Omega.{arith}
 use lib.Dec.{ltb, eqb}
 use lib.ListN.{length, take}
+use borrow.Author.Tests.{eq-eqb}
 use Rattle.pkt.specs.Answers.{Answer, refused, gives, andThen, mapped, unlessLong, fitting}
 use Rattle.ezpkt.specs.Build.{sizeOf, sizedAnswer, answerOf}
-use Rattle.ezpkt.specs.Icmp4.{gone}
+use Rattle.ezpkt.specs.Icmp4.{echoGone}
 use Rattle.tcp4.specs.Tcp4 as tcp
 use Rattle.ezpkt.specs.declared.build.Request.{Request}
 use Rattle.ezpkt.specs.declared.build.Request.the-variants.{Tcp, Udp, Echo, Piece}
 use Rattle.tcp4.specs.declared.TcpFlow.{TcpFlow}
-use Rattle.inspect.specs.Answers.{good}
+use Rattle.inspect.specs.Answers.{whole, good}
 use Rattle.inspect.specs.Header.{fieldAt, headerOf, frameAnswer, readAnswer, dataOf}
-use Rattle.inspect.specs.Check.{isPiece, isOther, isCut, wholeAnswer, verifiesBehindPseudo, verdictOf, checkAnswer}
+use Rattle.inspect.specs.Check.{isPiece, isOther, tcpCut, isCut, wholeAnswer, verifiesBehindPseudo, verdictOf, checkAnswer, examineAnswer}
 use Rattle.inspect.specs.declared.header.IpRead.{IpRead}
 use Rattle.inspect.specs.declared.check.Kind.{Kind}
 use Rattle.inspect.specs.declared.check.Kind.the-variants as kind
 use Rattle.assembly.specs.Assembly.{State, opened, step}
 use Rattle.assembly.specs.declared.Key.{Key}
-use Rattle.assembly.specs.View.{recordOf}
-use Rattle.assembly.specs.Answers.{replyOf}
-use Rattle.assembly.specs.Carried.{keyOf, sameKey, broken, fitAnswer, judgeAnswer, headAnswer, pieceOf, pieceAnswer}
-use Rattle.assembly.specs.Calls.{sized, usable, openAnswer, takeAnswer}
+use Rattle.assembly.specs.View.{recordOf, piece}
+use Rattle.assembly.specs.Answers.{replyOf, standingOf}
+use Rattle.assembly.specs.Carried.{keyOf, sameKey, broken, fitAnswer, keyedAnswer, headAnswer, pieceOf, pieceAnswer}
+use Rattle.assembly.specs.Calls.{sized, usable, openAnswer, takeAnswer, ready, putAnswer, standsAnswer}
 use Rattle.packet.specs.Headroom.{mostEnd, valid, leads}
 use Rattle.packet.specs.Answers.{ifValid, lowerAnswer, copyAnswer}
 use Rattle.packet.specs.declared.Packet.{Packet}
@@ -78,17 +79,20 @@ built-in (Piece q) n room =
 pub sent-in : (f : TcpFlow) (es : List tcp.Emit) (room : ℕ) → Among (1 ∷ 3 ∷ []) (tcp.sendAnswer f es room)
 sent-in f es room = refusing _ (tcp.anyLong es) 1 _ refl (refusing _ (ltb room (tcp.sizeAll es)) 3 _ refl (accepted _))
 
--- ---- reading, where 4, 5, 6 and 7 are among the numbers
+-- ---- reading, where 4, 5 and 6 are among the numbers
 
-module _ (ns : List ℕ) (four : isIn 4 ns ≡ true) (five : isIn 5 ns ≡ true) (six : isIn 6 ns ≡ true) (seven : isIn 7 ns ≡ true) where
-  read-in : (l : List ℕ) → Among ns (readAnswer l)
-  unfolding readAnswer frameAnswer
-  read-in l =
-      then-in ns (frameAnswer l) _
-      (refusing ns (ltb (length l) 20) 4 _ four
+module _ (ns : List ℕ) (four : isIn 4 ns ≡ true) (five : isIn 5 ns ≡ true) (six : isIn 6 ns ≡ true) where
+  frame-in : (l : List ℕ) → Among ns (frameAnswer l)
+  unfolding frameAnswer
+  frame-in l =
+      refusing ns (ltb (length l) 20) 4 _ four
       (refusing ns (not (eqb (fieldAt l 0 1) 0x45)) 5 _ five
-      (refusing ns (ltb (headerOf l .end) (headerOf l .start)) 6 _ six (refusing ns (ltb (length l) (headerOf l .end)) 4 _ four (accepted _)))))
-      (λ h. unless ns (verifies (take (h .start) l)) 7 _ seven (accepted h))
+      (refusing ns (ltb (headerOf l .end) (headerOf l .start)) 6 _ six (refusing ns (ltb (length l) (headerOf l .end)) 4 _ four (accepted _))))
+
+  -- and 7
+  read-in : isIn 7 ns ≡ true → (l : List ℕ) → Among ns (readAnswer l)
+  unfolding readAnswer
+  read-in seven l = then-in ns (frameAnswer l) _ (frame-in l) (λ h. unless ns (verifies (take (h .start) l)) 7 _ seven (accepted h))
 
 -- and where 13, 12 and 14, or 15, are
 module _ (ns : List ℕ) (thirteen : isIn 13 ns ≡ true) (twelve : isIn 12 ns ≡ true) (fourteen : isIn 14 ns ≡ true) where
@@ -111,26 +115,49 @@ check-in l =
     then-in _ (readAnswer l) _ (read-in _ refl refl refl refl l)
     (λ h. let d : List ℕ = dataOf h l in then-in _ (wholeAnswer h d) _ (whole-in _ refl refl refl h d) (λ k. verdict-in _ refl k h d))
 
+examine-in : (l : List ℕ) → Among (4 ∷ 5 ∷ 6 ∷ 13 ∷ 12 ∷ 14 ∷ []) (examineAnswer l)
+unfolding examineAnswer
+examine-in l =
+    then-in _ (frameAnswer l) _ (frame-in _ refl refl refl l)
+    (λ h. let d : List ℕ = dataOf h l in mapped-in _ (whole h) (wholeAnswer h d) (whole-in _ refl refl refl h d))
+
 -- ---- assembling
 
+second-in : (a b : ℕ) → isIn b (a ∷ b ∷ []) ≡ true
+second-in a b = go (eqb b a)
+  where
+    go : (t : Bool) → (t || (eqb b b || false)) ≡ true
+    go true = refl
+    go false = simp (eq-eqb b b refl)
+
+piece-in : (ns : List ℕ) (C far n : ℕ) (h : IpRead) → isIn 9 ns ≡ true → isIn far ns ≡ true → Among ns (fitAnswer C far n h)
+unfolding fitAnswer
+piece-in ns C far n h nine other = refusing ns (broken (h .mf) n) 9 _ nine (refusing ns (ltb C (8 * h .off + n)) far _ other (accepted h))
+
 pub take-in : (C M : ℕ) (s : State) (l : List ℕ) → Among (11 ∷ 4 ∷ 5 ∷ 6 ∷ 7 ∷ 8 ∷ 9 ∷ 10 ∷ []) (takeAnswer C M s l)
-unfolding takeAnswer pieceAnswer headAnswer judgeAnswer fitAnswer
+unfolding takeAnswer pieceAnswer headAnswer keyedAnswer
 take-in C M s l =
     unless ns (usable C M s) 11 _ refl
     (mapped-in ns (step s) (pieceAnswer C (s .key) l)
-    (mapped-in ns (pieceOf l) (headAnswer C (s .key) l)
-    (then-in ns (readAnswer l) _ (read-in ns refl refl refl refl l)
-    (λ h.
-    let n : ℕ = length (dataOf h l) in
-    unless ns (sameKey (keyOf h) (s .key)) 8 _ refl
-    (refusing ns (broken (h .mf) n) 9 _ refl (refusing ns (ltb C (8 * h .off + n)) 10 _ refl (accepted h)))))))
+    (then-in ns (headAnswer (s .key) l) _
+    (then-in ns (readAnswer l) _ (read-in ns refl refl refl refl l) (λ h. unless ns (sameKey (keyOf h) (s .key)) 8 _ refl (accepted h)))
+    (λ h. let n : ℕ = length (dataOf h l) in mapped-in ns (pieceOf l) (fitAnswer C 10 n h) (piece-in ns C 10 n h refl refl))))
   where
     ns : List ℕ
     ns = 11 ∷ 4 ∷ 5 ∷ 6 ∷ 7 ∷ 8 ∷ 9 ∷ 10 ∷ []
 
+put-in : (s : State) (h : IpRead) (b : List ℕ) → Among (11 ∷ 9 ∷ 10 ∷ []) (putAnswer s h b)
+unfolding putAnswer
+put-in s h b =
+    unless _ (ready s) 11 _ refl
+    (mapped-in _ (λ g. step s (piece (g .off) (g .mf) b)) (fitAnswer (length (s .payload)) 10 (length b) h) (piece-in _ (length (s .payload)) 10 (length b) h refl refl))
+
 pub open-in : (C M : ℕ) (k : Key) (p m : ℕ) → Among (11 ∷ []) (openAnswer C M k p m)
 unfolding openAnswer
 open-in C M k p m = unless _ (sized C M p m) 11 _ refl (accepted (opened k C M))
+
+pub stands-in : (ok : Bool) (s : State) → Among (11 ∷ []) (standsAnswer ok s)
+stands-in ok s = unless _ ok 11 _ refl (accepted (standingOf s))
 
 -- ---- capturing, and a packet with headroom
 
@@ -160,13 +187,17 @@ numbered =
       summing = λ most n c r e. told _ _ _ e (summed-in most n c);
       answering = λ q n room r e. told _ _ _ e (built-in q n room);
       building = λ q p o r o′ x. told _ _ _ (x .answer) (built-in q (length p) (length o));
-      echoing = λ e f p o r o′ x. told _ _ _ (x .answer) (mapped-in _ (gone f) _ (built-in (Echo e) (length p) (length o)));
+      echoing = λ e f p o r o′ x. told _ _ _ (x .answer) (mapped-in _ (echoGone f) _ (built-in (Echo e) (length p) (length o)));
       sending = λ f es o r o′ x. told _ _ _ (x .answer) (sent-in f es (length o));
       opening = λ C M k d m r d′ m′ x. told _ _ _ (x .answer) (mapped-in _ recordOf _ (open-in C M k (length d) (length m)));
       taking = λ C M s l r d m x. told _ _ _ (x .answer) (mapped-in _ replyOf _ (take-in C M s l));
+      placing = λ C far n h r e. told _ _ _ e (piece-in _ C far n h refl (second-in 9 far));
+      putting = λ s h b r d m x. told _ _ _ (x .answer) (mapped-in _ replyOf _ (put-in s h b));
+      progressing = λ ok s r e. told _ _ _ e (stands-in ok s);
+      framing = λ l r e. told _ _ _ e (frame-in _ refl refl refl l);
       reading = λ l r e. told _ _ _ e (read-in _ refl refl refl refl l);
-      finding = λ h d r e. told _ _ _ e (whole-in _ refl refl refl h d);
-      verifying = λ k h d r e. told _ _ _ e (refusing _ (ltb 65515 (length d)) 1 _ refl (verdict-in _ refl k h d));
+      examining = λ l r e. told _ _ _ e (examine-in l);
+      tcp-reading = λ d r e. told _ _ _ e (refusing _ (tcpCut d) 14 _ refl (accepted _));
       checking = λ l r e. told _ _ _ e (check-in l);
       recording = λ n usec room r e. told _ _ _ e (record-in n usec room);
       capturing = λ sec usec d o r o′ x. told _ _ _ (x .answer) (record-in (length d) usec (length o));

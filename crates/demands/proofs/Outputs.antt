@@ -21,7 +21,7 @@ use Rattle.ezpkt.specs.declared.build.Built.the-variants.{Packet}
 use Rattle.ezpkt.specs.declared.icmp4.IcmpFlow.{IcmpFlow}
 use Rattle.ezpkt.proofs.Verifying.{built-packet, built-total}
 use Rattle.ezpkt.proofs.Sizes.{tcp-size}
-use Rattle.tcp4.specs.Tcp4.{Emit, Gone, segmentOf, advance, after, afterAll, sentBytes, endsFrom, sizeAll, anyLong, sendAnswer}
+use Rattle.tcp4.specs.Tcp4.{Emit, Gone, segmentOf, advance, afterOne, afterAll, sentBytes, endsFrom, sizeAll, anyLong, sendAnswer}
 use Rattle.tcp4.specs.declared.TcpFlow.{TcpFlow}
 use Rattle.tcp4.specs.declared.Side.{Side}
 use Rattle.tcp4.specs.declared.Side.the-variants.{Client, Server}
@@ -79,14 +79,14 @@ end-to-end b r o f (e ∷ es) a i fits ok short room is at =
     let p : List ℕ = e .body in
     let q : Request = requestOf f e in
     let n : ℕ = 40 + length p in
-    let later : List ℕ = sentBytes (after f e) es in
+    let later : List ℕ = sentBytes (afterOne f e) es in
     let (few, rest) = or-no (ltb 65495 (length p)) (anyLong es) short in
     let given : answerOf q (length p) (length o) ≡ gives n = pick-no _ _ few ∙ pick-no _ _ (le-ltb (length o) n (omega arith)) in
     let here : b ≡ a ++ (packetOf q p ++ (later ++ r)) = is ∙ ap (λ (l : List ℕ). a ++ l) (append-assoc (packetOf q p) later r) in
     let (whole, bp) = ok e (List·Memᴰ·head refl) in
     next f e es i (i + n) _
     (stands q p o b a _ i n (in-range f (e .side) (e .flags) (e .frag) whole fits) bp given here at)
-    (end-to-end b r o (after f e) es (a ++ packetOf q p) (i + n) (kept f (e .side) _ fits) (λ x m. ok x (List·Memᴰ·tail m)) rest (omega arith)
+    (end-to-end b r o (afterOne f e) es (a ++ packetOf q p) (i + n) (kept f (e .side) _ fits) (λ x m. ok x (List·Memᴰ·tail m)) rest (omega arith)
     (here ∙ sym (append-assoc a (packetOf q p) (later ++ r)))
     (length-append a (packetOf q p) ∙ (let size = tcp-size (segmentOf f (e .side) (e .flags) (e .frag)) p in omega arith)))
 
@@ -102,8 +102,8 @@ sent f es o b g fits ok e is =
     (end-to-end b _ o f es [] 0 fits ok short room (is ∙ ap (λ (x : Answer Gone). leaves x (sentBytes f es) o) e) refl)
 
 -- an echo's answer tells what building it is answered
-echo-given : (f g : IcmpFlow) (a : Answer ℕ) (n : ℕ) → gives (icmp.gone g n) ≡ icmp.withFlow f a → a ≡ gives n
-echo-given f g (gives m) n e = let z : icmp.gone g n ≡ icmp.gone f m = cc in ap (λ (x : icmp.Gone). gives (x .size)) (sym z)
+echo-given : (f g : IcmpFlow) (a : Answer ℕ) (n : ℕ) → gives (icmp.echoGone g n) ≡ icmp.withFlow f a → a ≡ gives n
+echo-given f g (gives m) n e = let z : icmp.echoGone g n ≡ icmp.echoGone f m = cc in ap (λ (x : icmp.EchoGone). gives (x .size)) (sym z)
 echo-given f g (refused m) n e = let z : _≡_ {A = ℕ} 0 1 = cc in absurd (omega arith)
 
 -- Demand 2: "headers, lengths and checksums": each call leaves packets of the lengths that it answers, and these are checked as they are owed.
@@ -112,5 +112,5 @@ built-as-owed =
     record {
       building = λ q p o b n range bp x. first q p o b n range bp (sym (x .answer)) (x .after);
       echoing = λ e f g p o b n range bp x. first (Echo e) p o b n range bp (echo-given f g _ n (x .answer)) (x .after);
-      sending = λ f es o b r g fits ok x e. sent f es o b g fits ok (sym (x .answer) ∙ e) (x .after-it);
+      sending = λ f es o b r g fits ok x e. sent f es o b g fits ok (sym (x .answer) ∙ e) (x .after);
     }

@@ -5,7 +5,7 @@ use Prim.Native.Nat.{ℕ, _+_, _*_, _/_, _%_, _≤_, _<_}
 use native.Mathlib.Omega.{arith}
 use lib.Dec.{eqb}
 use borrow.Author.Tests.{eq-eqb, ne-eqb}
-use Rattle.ezpkt.specs.Build.{bit, pieceFlags, pieceIp}
+use Rattle.ezpkt.specs.Build.{flagBit, pieceFlags, pieceIp}
 use Rattle.ezpkt.specs.declared.build.IpPiece.{IpPiece}
 use Rattle.inspect.specs.Header.{hasBit}
 use Rattle.inspect.specs.Check.{ofMany, isPiece}
@@ -14,14 +14,14 @@ use Rattle.demands.specs.Ranges.{Fitting}
 use Rattle.inspect.proofs.Decoding.{Fit}
 
 ones : Bool → ℕ
-ones b = bit b 1
+ones b = flagBit b 1
 
 ones-most : (b : Bool) → ones b ≤ 1
 unfolding ones
 ones-most true = omega arith
 ones-most false = omega arith
 
-bit-is : (b : Bool) (n : ℕ) → bit b n ≡ n * ones b
+bit-is : (b : Bool) (n : ℕ) → flagBit b n ≡ n * ones b
 unfolding ones
 bit-is true n = omega arith
 bit-is false n = omega arith

@@ -7,12 +7,12 @@ use lib.ListN.{length}
 use Rattle.pkt.specs.Answers.{Answer, refused, gives, mapped}
 use Rattle.pkt.specs.Written.{leaves}
 use Rattle.ezpkt.specs.Build.{answerOf, packetOf}
-use Rattle.ezpkt.specs.Icmp4.{gone}
+use Rattle.ezpkt.specs.Icmp4.{echoGone}
 use Rattle.packet.proofs.Answers.{kept}
 use Rattle.assembly.specs.Assembly.{State}
 use Rattle.assembly.specs.View.{view, recordOf}
 use Rattle.assembly.specs.Answers.{replyOf, payloadAfter, mapAfter}
-use Rattle.assembly.specs.Calls.{openAnswer, takeAnswer}
+use Rattle.assembly.specs.Calls.{openAnswer, takeAnswer, putAnswer}
 use Rattle.demands.specs.Refusals.{RefusedKeep}
 
 -- a refusal stays one under what is made of the answer
@@ -38,8 +38,8 @@ refused-keep =
       echoing =
           λ q f p o o′ n x.
           let a = answerOf q (length p) (length o) in
-          left a n (packetOf q p) o o′ (mapped-refused (gone f) a n (x .answer)) (x .after);
-      sending = λ f es o o′ n x. left _ n _ o o′ (x .answer) (x .after-it);
+          left a n (packetOf q p) o o′ (mapped-refused (echoGone f) a n (x .answer)) (x .after);
+      sending = λ f es o o′ n x. left _ n _ o o′ (x .answer) (x .after);
       opening =
           λ C M k d m d′ m′ n x.
           let a = openAnswer C M k (length d) (length m) in
@@ -48,6 +48,11 @@ refused-keep =
       taking =
           λ C M r d m l d′ m′ n x.
           let a = takeAnswer C M (view r d m) l in
+          let e = mapped-refused replyOf a n (x .answer) in
+          (payload-left a n d d′ e (x .payload-is), map-left a n m m′ e (x .map-is));
+      putting =
+          λ r h d m b d′ m′ n x.
+          let a = putAnswer (view r d m) h b in
           let e = mapped-refused replyOf a n (x .answer) in
           (payload-left a n d d′ e (x .payload-is), map-left a n m m′ e (x .map-is));
       making = λ h b b′ n x. x .after ∙ kept _ n _ b (sym (x .answer));

@@ -5,7 +5,7 @@ use mathlib.Core.Bool.{Bool, true, false, not, _||_, cond}
 use mathlib.Core.List.{List, _++_}
 use Prim.Native.Nat.{ℕ, _+_, _*_, _≤_, min}
 use native.Mathlib.Omega.{arith}
-use lib.ListN.{length, drop, length-drop}
+use lib.ListN.{length, take, drop, length-drop}
 use lib.Dec.{eqb}
 use borrow.Author.Tests.{eq-eqb}
 use Rattle.pkt.specs.Answers.{gives}
@@ -29,6 +29,8 @@ use Rattle.inspect.specs.Check.{isPiece, partAnswer, checkAnswer}
 use Rattle.inspect.specs.declared.header.IpRead.{IpRead}
 use Rattle.inspect.specs.Encoded.{readOf}
 use Rattle.inspect.proofs.Sent.{tcp-good, udp-good, udp-bare, echo-good}
+use Rattle.assembly.specs.Assembly.{isComplete}
+use Rattle.assembly.specs.Answers.{Standing, standing}
 use Rattle.assembly.specs.Calls.{capacity}
 use Rattle.demands.specs.Ranges.{Fitting}
 use Rattle.demands.specs.Checked.{udpVerdict}
@@ -90,7 +92,7 @@ unfolding whole
 datagram-checked t d o b n fits few x =
     let q : IpPiece = asked t (length d) in
     let all : min (8 * 0 + 8 * length d) (length d) ≡ length d = omega arith in
-    ap checkAnswer (left-by _ d o b n x)
+    ap checkAnswer (left-by (datagramOf t (length d)) d o b n x)
     ∙ piece-checked q d _ fits (omega arith) few
     ∙ pick-no _ _ (ap (λ (e : Bool). not e || not (eqb 0 0)) (eq-eqb _ _ all))
 
@@ -108,8 +110,14 @@ round-trip t q v p o b n fits c bp x =
     record {
       calls = calls;
       checked =
-          λ r payload map f o₂ b₂ n₂ y.
-          datagram-checked t d o₂ b₂ n₂ fits few (subst (λ (s : List ℕ). Answered (datagramOf t (length s)) s o₂ (Packet n₂) b₂) (calls .assembled r payload map f) y)
+          λ r payload map f k told o₂ b₂ n₂ y.
+          let g = calls .assembled r payload map f in
+          let same : standing isComplete k ≡ standing isComplete (length d) = cc (told, g .told) in
+          let size : k ≡ length d = ap (λ (s : Standing). s .bytes) same in
+          let bytes : take k payload ≡ d = ap (λ (m : ℕ). take m payload) size ∙ g .bytes in
+          datagram-checked t d o₂ b₂ n₂ fits few
+          (subst (λ (s : List ℕ). Answered (datagramOf t (length d)) s o₂ (Packet n₂) b₂) bytes
+          (subst (λ (m : ℕ). Answered (datagramOf t m) (take k payload) o₂ (Packet n₂) b₂) size y))
           ∙ ap (partAnswer (whole t (length d) (20 + length d))) is
           ∙ part-good t (length d) (20 + length d) q v p (length o) n c bp (sym (x .answer));
     }

@@ -13,10 +13,10 @@ use Rattle.ezpkt.specs.declared.build.IpPiece.{IpPiece}
 use Rattle.inspect.specs.Encoded.{readOf}
 use Rattle.assembly.specs.declared.Key.{Key}
 use Rattle.assembly.specs.Assembly.{State, opened, step, complete}
-use Rattle.assembly.specs.Cut.{cut}
+use Rattle.assembly.specs.Cut.{requested}
 use Rattle.assembly.specs.Carried.{pieceAnswer}
 use Rattle.assembly.specs.Carried as carried
-use Rattle.assembly.specs.Calls.{capacity, mapBytes, takeAnswer, shown}
+use Rattle.assembly.specs.Calls.{capacity, mapBytes, takeAnswer, progressAnswer, Gathered}
 use Rattle.assembly.specs.Packets.{takeAll}
 
 -- a request (off, len) under t
@@ -24,8 +24,8 @@ abbrev pub ipPiece : Template → ℕ → ℕ → IpPiece
 ipPiece t off len = record { template = t; off = off; len = len }
 
 -- "one header with the assembly's key": the key that is read from t's header, whichever piece it heads
-unfoldable pub keyOf : Template → Key
-keyOf t = carried.keyOf (readOf (pieceIp (ipPiece t 0 0) 20 false))
+unfoldable pub templateKey : Template → Key
+templateKey t = carried.keyOf (readOf (pieceIp (ipPiece t 0 0) 20 false))
 
 -- l is what one of the three calls, asked for (off, len), builds from the payload d under t, "none asked for past its end"; any bytes may
 -- stand behind it. "`tail` takes len = n; `datagram` carries all with offset 0".
@@ -66,21 +66,22 @@ unfoldable pub Cover : Template → List ℕ → List (List ℕ) → Type 0
 Cover t d ls = (j : ℕ) → j < length d → Reached t d ls j
 
 -- the state after the packets ls, from an assembly opened for the template's key
-abbrev pub taken : Template → List (List ℕ) → State
-taken t ls = takeAll capacity mapBytes (opened (keyOf t) capacity mapBytes) ls
+abbrev pub afterPackets : Template → List (List ℕ) → State
+afterPackets t ls = takeAll capacity mapBytes (opened (templateKey t) capacity mapBytes) ls
 
 pub record Reassembles (t : Template) (d : List ℕ) : Type 0 where
   -- Each carries the part of the payload that was asked for,
-  pub carries : (l : List ℕ) (off len : ℕ) → Asked t d l off len → pieceAnswer capacity (keyOf t) l ≡ gives (cut d off len)
+  pub carries : (l : List ℕ) (off len : ℕ) → Asked t d l off len → pieceAnswer capacity (templateKey t) l ≡ gives (requested d off len)
   -- "all are accepted", whatever was handed in before: the step is that part's,
   pub accepted : (ls : List (List ℕ)) (l : List ℕ) (off len : ℕ) → Asked t d l off len
-      → takeAnswer capacity mapBytes (taken t ls) l ≡ gives (step (taken t ls) (cut d off len))
+      → takeAnswer capacity mapBytes (afterPackets t ls) l ≡ gives (step (afterPackets t ls) (requested d off len))
   -- "and the state is never spoilt": at the end or on the way.
-  pub never-spoilt : (ls later : List (List ℕ)) → AllBuilt t d (ls ++ later) → taken t ls .spoilt ≡ false
+  pub never-spoilt : (ls later : List (List ℕ)) → AllBuilt t d (ls ++ later) → afterPackets t ls .spoilt ≡ false
   -- "It is complete exactly when at least one was handed in and together they cover the payload,
-  pub complete-when : (ls : List (List ℕ)) → AllBuilt t d ls → (complete (taken t ls) ≡ true) ↔ ((0 < length ls) × Cover t d ls)
-  -- and it then holds that payload": `held` answers it.
-  pub held : (ls : List (List ℕ)) → AllBuilt t d ls → complete (taken t ls) ≡ true → shown capacity mapBytes (taken t ls) ≡ d
+  pub complete-when : (ls : List (List ℕ)) → AllBuilt t d ls → (complete (afterPackets t ls) ≡ true) ↔ ((0 < length ls) × Cover t d ls)
+  -- and it then holds that payload": `progress` answers complete with its length, and it is the first so many bytes of the payload buffer.
+  pub held : (ls : List (List ℕ)) → AllBuilt t d ls → complete (afterPackets t ls) ≡ true
+      → Gathered (progressAnswer capacity mapBytes (afterPackets t ls)) (afterPackets t ls .payload) d
   -- The demands' story: a piece asked for past the end, and the last piece of the same payload, whichever of them came first.
   pub past-end-spoils : (l m : List ℕ) (off len : ℕ) → PastEnd t d l → Asked t d m off len → length d ≤ 8 * off + 8 * len
-      → (ls : List (List ℕ)) → List·Memᴰ l ls → List·Memᴰ m ls → taken t ls .spoilt ≡ true
+      → (ls : List (List ℕ)) → List·Memᴰ l ls → List·Memᴰ m ls → afterPackets t ls .spoilt ≡ true

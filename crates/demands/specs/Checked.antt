@@ -4,7 +4,7 @@ use mathlib.Core.List.{List}
 use Prim.Native.Nat.{ℕ, _+_, _%_}
 use lib.ListN.{length}
 use Rattle.pkt.specs.Answers.{Answer, refused, gives}
-use Rattle.ezpkt.specs.Build.{more, pieceIp}
+use Rattle.ezpkt.specs.Build.{moreFollow, pieceIp}
 use Rattle.ezpkt.specs.declared.build.Request.{Request}
 use Rattle.ezpkt.specs.declared.build.Request.the-variants.{Tcp, Udp, Echo, Piece}
 use Rattle.inspect.specs.Answers.{Verdict, good, noChecksum}
@@ -26,4 +26,4 @@ abbrev pub checkOf : Request → List ℕ → Answer Verdict
 checkOf (Tcp t) p = cond (pieceField (t .«frag_off»)) (refused 13) (gives good)
 checkOf (Udp u) p = cond (pieceField (u .«frag_off»)) (refused 13) (gives (udpVerdict (u .csum)))
 checkOf (Echo e) p = gives good
-checkOf (Piece q) p = cond (ofMany (more q (length p)) (q .off)) (refused 13) (partAnswer (readOf (pieceIp q (20 + length p) false)) p)
+checkOf (Piece q) p = cond (ofMany (moreFollow q (length p)) (q .off)) (refused 13) (partAnswer (readOf (pieceIp q (20 + length p) false)) p)

@@ -12,9 +12,9 @@ use Rattle.assembly.specs.declared.Rec.{Rec}
 use Rattle.assembly.specs.declared.Taken.{Taken}
 use Rattle.assembly.specs.declared.Taken.the-variants.{Complete}
 use Rattle.assembly.specs.View.{view}
-use Rattle.assembly.specs.Calls.{capacity, mapBytes, Takes, shown}
+use Rattle.assembly.specs.Calls.{capacity, mapBytes, Takes, progressAnswer, Gathered}
 use Rattle.demands.specs.Handing.{Handed}
-use Rattle.demands.specs.Assembling.{keyOf, Asked, Cover, taken, Reassembles}
+use Rattle.demands.specs.Assembling.{templateKey, Asked, Cover, afterPackets, Reassembles}
 
 -- l is what an accepted call of `fragment`, `tail` or `datagram` that was asked for (off, len) left in its output: a piece of d under t,
 -- "none asked for past its end"
@@ -35,12 +35,8 @@ pub record Finished (t : Template) (d : List ℕ) (r : Rec) (payload map : List 
   pub rec : Rec
   pub payload₀ : List ℕ
   pub map₀ : List ℕ
-  pub handed : Handed (keyOf t) before rec payload₀ map₀
+  pub handed : Handed (templateKey t) before rec payload₀ map₀
   pub answered : Takes capacity mapBytes (view rec payload₀ map₀) last (Complete r) payload map
-
--- what `held` answers
-abbrev pub heldOf : Rec → List ℕ → List ℕ → List ℕ
-heldOf r payload map = shown capacity mapBytes (view r payload map)
 
 -- Any payload d, "of at most 65,515 bytes", cut "under one header", the template t's.
 pub record CallsAssemble (t : Template) (d : List ℕ) : Type 0 where
@@ -49,10 +45,10 @@ pub record CallsAssemble (t : Template) (d : List ℕ) : Type 0 where
   -- what the calls that cut leave are the pieces that they were asked for,
   pub pieces : (l : List ℕ) (off len : ℕ) → CutBy t d l off len → Asked t d l off len
   -- and the calls of an assembly lead where demand 3 says.
-  pub handing : (ls : List (List ℕ)) (r : Rec) (payload map : List ℕ) → Handed (keyOf t) ls r payload map → view r payload map ≡ taken t ls
+  pub handing : (ls : List (List ℕ)) (r : Rec) (payload map : List ℕ) → Handed (templateKey t) ls r payload map → view r payload map ≡ afterPackets t ls
   -- "It is complete exactly when at least one was handed in and together they cover the payload": so answers the call that hands in the last,
-  pub completes : (before : List (List ℕ)) (last : List ℕ) (r : Rec) (payload map payload′ map′ : List ℕ) (a : Taken) → Handed (keyOf t) before r payload map
+  pub completes : (before : List (List ℕ)) (last : List ℕ) (r : Rec) (payload map payload′ map′ : List ℕ) (a : Taken) → Handed (templateKey t) before r payload map
       → Takes capacity mapBytes (view r payload map) last a payload′ map′ → AllCut t d (before ++ (last ∷ []))
       → ((r′ : Rec) × (a ≡ Complete r′)) ↔ Cover t d (before ++ (last ∷ []))
-  -- "and it then holds that payload": `held` answers d.
-  pub assembled : (r : Rec) (payload map : List ℕ) → Finished t d r payload map → heldOf r payload map ≡ d
+  -- "and it then holds that payload": `progress` answers complete with the length of d, and d is the first so many bytes of the payload buffer.
+  pub assembled : (r : Rec) (payload map : List ℕ) → Finished t d r payload map → Gathered (progressAnswer capacity mapBytes (view r payload map)) payload d

@@ -8,3 +8,6 @@ pub mod Numbers
 pub mod Refusals
 pub mod Round
 pub mod Worked
+pub mod Demand1
+pub mod Demand2
+pub mod Demand3

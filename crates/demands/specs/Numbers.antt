@@ -15,23 +15,26 @@ use Rattle.ezpkt.specs.declared.build.Request.the-variants.{Tcp, Udp, Echo, Pie
 use Rattle.ezpkt.specs.declared.build.IcmpEcho.{IcmpEcho}
 use Rattle.ezpkt.specs.declared.build.Built.{Built}
 use Rattle.ezpkt.specs.declared.icmp4.IcmpFlow.{IcmpFlow}
-use Rattle.ezpkt.specs.declared.icmp4.Sent as echo
+use Rattle.ezpkt.specs.declared.icmp4.EchoSent as echo
 use Rattle.tcp4.specs.declared.TcpFlow.{TcpFlow}
 use Rattle.tcp4.specs.declared.Sent.{Sent}
-use Rattle.inspect.specs.Answers.{readSays, foundSays, checkedSays}
-use Rattle.inspect.specs.Header.{readAnswer}
-use Rattle.inspect.specs.Check.{wholeAnswer, sumsAnswer, checkAnswer}
+use Rattle.inspect.specs.Answers.{readSays, examinedSays, tcpSays, checkedSays}
+use Rattle.inspect.specs.Header.{frameAnswer, readAnswer}
+use Rattle.inspect.specs.Check.{examineAnswer, checkAnswer}
+use Rattle.inspect.specs.Tcp.{tcpReadAnswer}
 use Rattle.inspect.specs.declared.header.IpRead.{IpRead}
 use Rattle.inspect.specs.declared.header.Seen.{Seen}
-use Rattle.inspect.specs.declared.check.Kind.{Kind}
-use Rattle.inspect.specs.declared.check.Found.{Found}
+use Rattle.inspect.specs.declared.check.Examined.{Examined}
+use Rattle.inspect.specs.declared.tcp.TcpSeen.{TcpSeen}
 use Rattle.inspect.specs.declared.check.Checked.{Checked}
 use Rattle.assembly.specs.declared.Key.{Key}
 use Rattle.assembly.specs.declared.Opened.{Opened}
 use Rattle.assembly.specs.declared.Taken.{Taken}
 use Rattle.assembly.specs.Assembly.{State}
-use Rattle.assembly.specs.Answers.{openedSays, takenSays}
-use Rattle.assembly.specs.Calls.{Opens, Takes}
+use Rattle.assembly.specs.declared.step.Progress.{Progress}
+use Rattle.assembly.specs.Answers.{openedSays, takenSays, progressSays}
+use Rattle.assembly.specs.Carried.{fitAnswer}
+use Rattle.assembly.specs.Calls.{Opens, Takes, Puts, standsAnswer}
 use Rattle.packet.specs.Answers as packet
 use Rattle.packet.specs.declared.Packet.{Packet}
 use Rattle.packet.specs.declared.PktSlice.{PktSlice}
@@ -68,8 +71,8 @@ pub record Numbered : Type 0 where
   -- `build`, `fragment`, `tail`, `datagram`, `client_dgram`, `server_dgram`
   pub building : (q : Request) (p o : List ℕ) (r : Built) (o′ : List ℕ) → Answered q p o r o′ → Among (buildNumbers q) (builtSays r)
   -- `echo`, `echo_reply`
-  pub echoing : (e : IcmpEcho) (f : IcmpFlow) (p o : List ℕ) (r : echo.Sent) (o′ : List ℕ) → icmp.Echoed (Echo e) f p o r o′
-      → Among (1 ∷ 3 ∷ []) (icmp.sentSays r)
+  pub echoing : (e : IcmpEcho) (f : IcmpFlow) (p o : List ℕ) (r : echo.EchoSent) (o′ : List ℕ) → icmp.Echoed (Echo e) f p o r o′
+      → Among (1 ∷ 3 ∷ []) (icmp.echoSentSays r)
   -- the calls of `TcpFlow` that send
   pub sending : (f : TcpFlow) (es : List tcp.Emit) (o : List ℕ) (r : Sent) (o′ : List ℕ) → tcp.Sends f es o r o′ → Among (1 ∷ 3 ∷ []) (tcp.sentSays r)
   -- "opening gives only 11"
@@ -77,12 +80,20 @@ pub record Numbered : Type 0 where
   -- "Assembly 11, 4 (under 20), 5, 6, 4 (total), 7, 8, 9, 10"
   pub taking : (C M : ℕ) (s : State) (l : List ℕ) (r : Taken) (d m : List ℕ) → Takes C M s l r d m
       → Among (11 ∷ 4 ∷ 5 ∷ 6 ∷ 7 ∷ 8 ∷ 9 ∷ 10 ∷ []) (takenSays r)
-  -- "Packet check 4, 5, 6, 4, 7, 13, 12, 14, 15", and its parts: `read`,
+  -- of these 9, and 10 or the number `far`, by `carried::fit`,
+  pub placing : (C far n : ℕ) (h : IpRead) (r : Seen) → readSays r ≡ fitAnswer C far n h → Among (9 ∷ far ∷ []) (readSays r)
+  -- 11, 9 and 10 by `any::put`,
+  pub putting : (s : State) (h : IpRead) (b : List ℕ) (r : Taken) (d m : List ℕ) → Puts s h b r d m → Among (11 ∷ 9 ∷ 10 ∷ []) (takenSays r)
+  -- and 11 by `progress` and `any::progress`
+  pub progressing : (ok : Bool) (s : State) (r : Progress) → progressSays r ≡ standsAnswer ok s → Among (11 ∷ []) (progressSays r)
+  -- "Packet check 4, 5, 6, 4, 7, 13, 12, 14, 15", and its parts: `frame`,
+  pub framing : (l : List ℕ) (r : Seen) → readSays r ≡ frameAnswer l → Among (4 ∷ 5 ∷ 6 ∷ []) (readSays r)
+  -- `header::read`,
   pub reading : (l : List ℕ) (r : Seen) → readSays r ≡ readAnswer l → Among (4 ∷ 5 ∷ 6 ∷ 7 ∷ []) (readSays r)
-  -- `whole`,
-  pub finding : (h : IpRead) (d : List ℕ) (r : Found) → foundSays r ≡ wholeAnswer h d → Among (13 ∷ 12 ∷ 14 ∷ []) (foundSays r)
-  -- `sums`, which is also asked of parts that are too long,
-  pub verifying : (k : Kind) (h : IpRead) (d : List ℕ) (r : Checked) → checkedSays r ≡ sumsAnswer k h d → Among (1 ∷ 15 ∷ []) (checkedSays r)
+  -- `examine`,
+  pub examining : (l : List ℕ) (r : Examined) → examinedSays r ≡ examineAnswer l → Among (4 ∷ 5 ∷ 6 ∷ 13 ∷ 12 ∷ 14 ∷ []) (examinedSays r)
+  -- `tcp::read`,
+  pub tcp-reading : (d : List ℕ) (r : TcpSeen) → tcpSays r ≡ tcpReadAnswer d → Among (14 ∷ []) (tcpSays r)
   -- and `check`.
   pub checking : (l : List ℕ) (r : Checked) → checkedSays r ≡ checkAnswer l → Among (4 ∷ 5 ∷ 6 ∷ 7 ∷ 13 ∷ 12 ∷ 14 ∷ 15 ∷ []) (checkedSays r)
   -- "Capture 1, 17, 3": `record_answer`, `write_record`

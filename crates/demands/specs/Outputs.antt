@@ -12,8 +12,8 @@ use Rattle.ezpkt.specs.declared.build.Request.the-variants.{Tcp, Echo}
 use Rattle.ezpkt.specs.declared.build.IcmpEcho.{IcmpEcho}
 use Rattle.ezpkt.specs.declared.build.Built.the-variants as built
 use Rattle.ezpkt.specs.declared.icmp4.IcmpFlow.{IcmpFlow}
-use Rattle.ezpkt.specs.declared.icmp4.Sent.the-variants as echo
-use Rattle.tcp4.specs.Tcp4.{Emit, Gone, segmentOf, after, sentSays, Sends}
+use Rattle.ezpkt.specs.declared.icmp4.EchoSent.the-variants as echo
+use Rattle.tcp4.specs.Tcp4.{Emit, Gone, segmentOf, afterOne, sentSays, Sends}
 use Rattle.tcp4.specs.declared.TcpFlow.{TcpFlow}
 use Rattle.tcp4.specs.declared.Sent.{Sent}
 use Rattle.inspect.specs.Header.{fieldAt}
@@ -36,7 +36,7 @@ requestOf f e = Tcp (segmentOf f (e .side) (e .flags) (e .frag))
 -- "Several packets .. go end to end into one lent buffer": those that the flow f sends, the first from place i on, each up to its end
 pub data EndToEnd (b : List ℕ) : TcpFlow → List Emit → ℕ → List ℕ → Type 0 where
   none : (f : TcpFlow) (i : ℕ) → EndToEnd b f [] i []
-  next : (f : TcpFlow) (e : Emit) (es : List Emit) (i j : ℕ) (js : List ℕ) → Stands (requestOf f e) (e .body) b i j → EndToEnd b (after f e) es j js
+  next : (f : TcpFlow) (e : Emit) (es : List Emit) (i j : ℕ) (js : List ℕ) → Stands (requestOf f e) (e .body) b i j → EndToEnd b (afterOne f e) es j js
       → EndToEnd b f (e ∷ es) i (j ∷ js)
 
 -- the flags and offset field fits its type, and the payload's bytes theirs

@@ -10,21 +10,23 @@ use Rattle.tcp4.specs.Tcp4.{Emit, Sends}
 use Rattle.ezpkt.specs.declared.build.Request.{Request}
 use Rattle.ezpkt.specs.declared.build.Built.the-variants as built
 use Rattle.ezpkt.specs.declared.icmp4.IcmpFlow.{IcmpFlow}
-use Rattle.ezpkt.specs.declared.icmp4.Sent.the-variants as echo
+use Rattle.ezpkt.specs.declared.icmp4.EchoSent.the-variants as echo
 use Rattle.tcp4.specs.declared.TcpFlow.{TcpFlow}
 use Rattle.tcp4.specs.declared.Sent.the-variants as sent
+use Rattle.inspect.specs.declared.header.IpRead.{IpRead}
 use Rattle.assembly.specs.declared.Key.{Key}
 use Rattle.assembly.specs.declared.Rec.{Rec}
 use Rattle.assembly.specs.declared.Opened.the-variants as opened
 use Rattle.assembly.specs.declared.Taken.the-variants as taken
 use Rattle.assembly.specs.View.{view}
-use Rattle.assembly.specs.Calls.{Opens, Takes}
+use Rattle.assembly.specs.Calls.{Opens, Takes, Puts}
 use Rattle.packet.specs.Answers.{MadeNew, Appended, Prepended, CopiedOut}
 use Rattle.packet.specs.declared.Packet.{Packet}
 use Rattle.packet.specs.declared.Made.the-variants as made
 use Rattle.packet.specs.declared.Pushed.the-variants as pushed
 use Rattle.packet.specs.declared.Number.the-variants as number
-use Rattle.pcap.specs.Answers.{Wrote}
+use Rattle.pkt.specs.Written.{Wrote}
+use Rattle.pcap.specs.Answers.{capturedSays}
 use Rattle.pcap.specs.declared.Captured.the-variants as captured
 
 -- Every call of the library crates that is lent bytes to write, by the contract that it has. n is the refusal's number. A refusal hands no flow
@@ -40,6 +42,8 @@ pub record RefusedKeep : Type 0 where
   pub opening : (C M : ℕ) (k : Key) (d m d′ m′ : List ℕ) (n : ℕ) → Opens C M k d m (opened.Refused n) d′ m′ → (d′ ≡ d) × (m′ ≡ m)
   -- `take`: both buffers
   pub taking : (C M : ℕ) (r : Rec) (d m l d′ m′ : List ℕ) (n : ℕ) → Takes C M (view r d m) l (taken.Refused n) d′ m′ → (d′ ≡ d) × (m′ ≡ m)
+  -- `any::put`: both buffers
+  pub putting : (r : Rec) (h : IpRead) (d m b d′ m′ : List ℕ) (n : ℕ) → Puts (view r d m) h b (taken.Refused n) d′ m′ → (d′ ≡ d) × (m′ ≡ m)
   -- `Packet::new`: the buffer
   pub making : (h : ℕ) (b b′ : List ℕ) (n : ℕ) → MadeNew h b (made.Refused n) b′ → b′ ≡ b
   -- `push_slice`, `push_bytes`, `push_hdr`, `push`: the buffer
@@ -49,4 +53,4 @@ pub record RefusedKeep : Type 0 where
   -- `to_vec`, `to_vec_from`, `hex_dump`: the output
   pub copying : (ok : Bool) (k : ℕ) (d o o′ : List ℕ) (n : ℕ) → CopiedOut ok k d o (number.Refused n) o′ → o′ ≡ o
   -- `write_header`, `write_record`: the output
-  pub capturing : (a : Answer ℕ) (b o o′ : List ℕ) (n : ℕ) → Wrote a b o (captured.Refused n) o′ → o′ ≡ o
+  pub capturing : (a : Answer ℕ) (b o o′ : List ℕ) (n : ℕ) → Wrote capturedSays a b o (captured.Refused n) o′ → o′ ≡ o

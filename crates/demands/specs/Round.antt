@@ -2,7 +2,7 @@
 use mathlib.Core.Path.{_≡_}
 use mathlib.Core.List.{List}
 use Prim.Native.Nat.{ℕ}
-use lib.ListN.{length, take, drop}
+use lib.ListN.{take, drop}
 use Rattle.pkt.specs.Answers.{gives}
 use Rattle.ezpkt.specs.Build.{Answered}
 use Rattle.ezpkt.specs.Ip4.{datagramOf}
@@ -16,7 +16,11 @@ use Rattle.ezpkt.specs.declared.build.Built.the-variants.{Packet}
 use Rattle.inspect.specs.Answers.{Verdict, good}
 use Rattle.inspect.specs.Check.{checkAnswer}
 use Rattle.assembly.specs.declared.Rec.{Rec}
-use Rattle.demands.specs.Cutting.{Finished, heldOf, CallsAssemble}
+use Rattle.assembly.specs.View.{view}
+use Rattle.assembly.specs.Assembly.{isComplete}
+use Rattle.assembly.specs.Answers.{standing}
+use Rattle.assembly.specs.Calls.{capacity, mapBytes, progressAnswer}
+use Rattle.demands.specs.Cutting.{Finished, CallsAssemble}
 use Rattle.demands.specs.Checked.{udpVerdict}
 
 -- the IPv4 payload of a packet of n bytes that a call left at the start of the output b
@@ -34,9 +38,10 @@ pub data Owed (t : Template) : Request → Verdict → Type 0 where
   of-udp : (x : UdpDatagram) → Names t 17 (x .saddr) (x .daddr) → Owed t (Udp x) (udpVerdict (x .csum))
   of-echo : (x : IcmpEcho) → Names t 1 (x .saddr) (x .daddr) → Owed t (Echo x) good
 
--- The IPv4 payload d of that packet, cut under t: demand 3 holds of it, and what `datagram` builds of what was put together is checked as it
--- deserves.
+-- The IPv4 payload d of that packet, cut under t: demand 3 holds of it, and what `datagram` builds of what was put together, the first k bytes of
+-- the payload buffer where `progress` answers complete with k, is checked as it deserves.
 pub record RoundTrip (t : Template) (v : Verdict) (d : List ℕ) : Type 0 where
   pub calls : CallsAssemble t d
-  pub checked : (r : Rec) (payload map : List ℕ) → Finished t d r payload map → (o b : List ℕ) (n : ℕ)
-      → Answered (datagramOf t (length (heldOf r payload map))) (heldOf r payload map) o (Packet n) b → checkAnswer b ≡ gives v
+  pub checked : (r : Rec) (payload map : List ℕ) → Finished t d r payload map
+      → (k : ℕ) → progressAnswer capacity mapBytes (view r payload map) ≡ gives (standing isComplete k)
+      → (o b : List ℕ) (n : ℕ) → Answered (datagramOf t k) (take k payload) o (Packet n) b → checkAnswer b ≡ gives v

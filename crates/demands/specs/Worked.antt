@@ -5,9 +5,10 @@ use mathlib.Core.List.{List, [], _∷_}
 use Prim.Native.Nat.{ℕ, _+_}
 use lib.ListN.{length, drop}
 use Rattle.pkt.specs.Answers.{gives, csumAnswer, mapped}
+use Rattle.pkt.specs.Rfc9293.{SYN, PSH, ACK}
 use Rattle.ezpkt.specs.Build.{packetOf}
 use Rattle.ezpkt.specs.Ip4.{fragmentOf}
-use Rattle.tcp4.specs.Tcp4.{newFlow, emit, opening, segmentOf, sentBytes, sendAnswer}
+use Rattle.tcp4.specs.Tcp4.{newTcpFlow, emit, opening, segmentOf, sentBytes, sendAnswer}
 use Rattle.tcp4.specs.Sequence.{flowBy}
 use Rattle.ezpkt.specs.declared.ip4.Template.{Template}
 use Rattle.ezpkt.specs.declared.build.Request.the-variants.{Tcp, Udp}
@@ -17,7 +18,7 @@ use Rattle.inspect.specs.Header.{fieldAt}
 use Rattle.assembly.specs.Assembly.{opened, outcome, isComplete}
 use Rattle.assembly.specs.Cut.{twenty}
 use Rattle.assembly.specs.Calls.{capacity, mapBytes, takeAnswer}
-use Rattle.demands.specs.Assembling.{keyOf}
+use Rattle.demands.specs.Assembling.{templateKey}
 
 -- An example: what is computed, and the value that it is to have.
 pub record Case : Type 1 where
@@ -44,11 +45,11 @@ server = 0x0a000002
 
 -- a flow from 10.0.0.1:40000 to 10.0.0.2:80 at two sequence numbers
 abbrev pub flowAt : ℕ → ℕ → TcpFlow
-flowAt c s = newFlow (record { ip = client; port = 40000 }) (record { ip = server; port = 80 }) c s
+flowAt c s = newTcpFlow (record { ip = client; port = 40000 }) (record { ip = server; port = 80 }) c s
 
 -- "SYN 10.0.0.1:40000 to 10.0.0.2:80, sequence 1000"
 unfoldable pub syn : List ℕ
-syn = packetOf (Tcp (segmentOf (flowAt 1000 5000) Client 0x02 0)) []
+syn = packetOf (Tcp (segmentOf (flowAt 1000 5000) Client SYN 0)) []
 
 -- "UDP 10.0.0.1:1 to 10.0.0.2:2, payload eb d4"
 unfoldable pub datagram : List ℕ
@@ -64,7 +65,7 @@ numbersAt l at = fieldAt l (at + 24) 4 ∷ fieldAt l (at + 28) 4 ∷ []
 
 -- "4 bytes sent at 4,294,967,294"
 unfoldable pub rolled : TcpFlow
-rolled = let f : TcpFlow = flowAt 4294967294 5000 in flowBy (sendAnswer f (emit Client 0x18 0 (1 ∷ 2 ∷ 3 ∷ 4 ∷ []) ∷ []) 44) f
+rolled = let f : TcpFlow = flowAt 4294967294 5000 in flowBy (sendAnswer f (emit Client (PSH + ACK) 0 (1 ∷ 2 ∷ 3 ∷ 4 ∷ []) ∷ []) 44) f
 
 abbrev pub template : Template
 template = record { tos = 0; id = 7; df = false; evil = false; ttl = 64; protocol = 17; saddr = client; daddr = server }
@@ -103,5 +104,5 @@ cases =
     ∷ case (fieldAndData (pieceAt twenty 3 1)) (0x0003 ∷ 0 ∷ [])
     -- "n = 0, (0,0): field 0000, complete at once"
     ∷ case (fieldAndData (pieceAt [] 0 0)) (0x0000 ∷ 0 ∷ [])
-    ∷ case (mapped outcome (takeAnswer capacity mapBytes (opened (keyOf template) capacity mapBytes) (pieceAt [] 0 0))) (gives isComplete)
+    ∷ case (mapped outcome (takeAnswer capacity mapBytes (opened (templateKey template) capacity mapBytes) (pieceAt [] 0 0))) (gives isComplete)
     ∷ []

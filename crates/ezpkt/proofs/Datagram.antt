@@ -1,20 +1,14 @@
 -- What a whole datagram is.
 use mathlib.Core.Path.{_≡_, refl}
-use mathlib.Core.Bool.{false}
-use mathlib.Core.List.{List, _++_}
-use Prim.Native.Nat.{ℕ, _+_, _-_, _*_, min}
+use Prim.Native.Nat.{_+_, _-_, _*_, min}
 use native.Mathlib.Omega.{arith}
 use lib.ListN.{length}
 use lib.Seq.{take-all}
 use borrow.Author.Tests.{eq-eqb}
-use Rattle.pkt.specs.Rfc791.{ipHeader}
-use Rattle.ezpkt.specs.Build.{pieceIp, piecePacket, packetOf}
-use Rattle.ezpkt.specs.Ip4.{datagramOf}
-use Rattle.ezpkt.specs.declared.ip4.Template.{Template}
+use Rattle.ezpkt.specs.Build.{piecePacket}
+use Rattle.ezpkt.specs.Ip4.{DatagramWhole}
 
--- "`datagram` carries all with offset 0 and MF clear"
-pub datagram-whole : (t : Template) (p : List ℕ)
-    → packetOf (datagramOf t (length p)) p ≡ ipHeader (pieceIp (record { template = t; off = 0; len = length p }) (20 + length p) false) ++ p
+pub datagram-whole : DatagramWhole
 unfolding piecePacket
 datagram-whole t p =
     let s : min (8 * 0) (length p) ≡ 0 = omega arith in

@@ -15,7 +15,7 @@ use Rattle.pkt.proofs.Deciding.{bounded}
 use Rattle.pkt.specs.declared.ipv4.Sum.{Sum}
 use Rattle.pkt.specs.declared.ipv4.Sum.the-variants.{Is, Refused}
 use Rattle.ezpkt.specs.Answers.{summed}
-use Rattle.ezpkt.specs.Build.{sizedAnswer, pieceAnswer, answerOf, sizeOf, Answered}
+use Rattle.ezpkt.specs.Build.{sizedAnswer, fragmentAnswer, answerOf, sizeOf, Answered}
 use Rattle.ezpkt.specs.declared.build.IpPiece.{IpPiece}
 use Rattle.ezpkt.specs.declared.build.Request.{Request}
 use Rattle.ezpkt.specs.declared.build.Request.the-variants.{Tcp, Udp, Echo, Piece}
@@ -39,7 +39,7 @@ sized-fits most head n room k e =
     let b = bounded room (head + n) 3 k _ (a .1) in
     record { few = a .0; room-for = b .0; is-size = (let q : head + n ≡ k = cc (b .1) in q) }
 
-pub piece-fits : (q : IpPiece) (n room k : ℕ) → pieceAnswer q n room ≡ gives k → (q .off ≤ 8191) × Fits 65515 (sizeOf (Piece q) n) n room k
+pub piece-fits : (q : IpPiece) (n room k : ℕ) → fragmentAnswer q n room ≡ gives k → (q .off ≤ 8191) × Fits 65515 (sizeOf (Piece q) n) n room k
 piece-fits q n room k e =
     let a = bounded 65515 n 1 k _ e in
     let b = bounded 8191 (q .off) 2 k _ (a .1) in

@@ -1,18 +1,14 @@
--- One outcome: each contract leaves one answer and one buffer.
-use mathlib.Core.Path.{_≡_, refl, sym, _∙_}
+-- One answer: what an answer says determines it.
+use mathlib.Core.Path.{_≡_, refl}
 use Prim.Native.Nat.{ℕ}
-use mathlib.Core.List.{List}
 use Rattle.pkt.specs.Answers.{Answer, refused, gives}
 use Rattle.pkt.proofs.Only.{told-once}
 use Rattle.ezpkt.specs.Answers.{builtSays}
-use Rattle.ezpkt.specs.Build.{Answered}
 use Rattle.ezpkt.specs.Icmp4 as icmp
-use Rattle.ezpkt.specs.declared.build.Request.{Request}
 use Rattle.ezpkt.specs.declared.build.Built.{Built}
 use Rattle.ezpkt.specs.declared.build.Built.the-variants.{Packet, Refused}
-use Rattle.ezpkt.specs.declared.icmp4.IcmpFlow.{IcmpFlow}
-use Rattle.ezpkt.specs.declared.icmp4.Sent as Echo
-use Rattle.ezpkt.specs.declared.icmp4.Sent.the-variants as echo
+use Rattle.ezpkt.specs.declared.icmp4.EchoSent as Echo
+use Rattle.ezpkt.specs.declared.icmp4.EchoSent.the-variants as echo
 
 builtOf : Answer ℕ → Built
 builtOf (gives n) = Packet n
@@ -23,21 +19,17 @@ unfolding builtOf
 builtOf-says (Packet n) = refl
 builtOf-says (Refused n) = refl
 
-pub answer-only : (r s : Built) (a : Answer ℕ) → builtSays r ≡ a → builtSays s ≡ a → r ≡ s
-answer-only r s a p q = told-once builtSays builtOf builtOf-says r s a p q
+pub built-only : (r s : Built) (a : Answer ℕ) → builtSays r ≡ a → builtSays s ≡ a → r ≡ s
+built-only r s a p q = told-once builtSays builtOf builtOf-says r s a p q
 
-pub built-only : (q : Request) (p o o₁ o₂ : List ℕ) (r s : Built) → Answered q p o r o₁ → Answered q p o s o₂ → (r ≡ s) × (o₁ ≡ o₂)
-built-only q p o o₁ o₂ r s x y = (answer-only r s _ (x .answer) (y .answer), x .after ∙ sym (y .after))
-
-echoOf : Answer icmp.Gone → Echo.Sent
+echoOf : Answer icmp.EchoGone → Echo.EchoSent
 echoOf (gives g) = echo.Packet (g .flow) (g .size)
 echoOf (refused n) = echo.Refused n
 
-echoOf-says : (r : Echo.Sent) → echoOf (icmp.sentSays r) ≡ r
+echoOf-says : (r : Echo.EchoSent) → echoOf (icmp.echoSentSays r) ≡ r
 unfolding echoOf
 echoOf-says (echo.Packet f n) = refl
 echoOf-says (echo.Refused n) = refl
 
-pub echoed-only : (q : Request) (f : IcmpFlow) (p o o₁ o₂ : List ℕ) (r s : Echo.Sent) → icmp.Echoed q f p o r o₁ → icmp.Echoed q f p o s o₂
-    → (r ≡ s) × (o₁ ≡ o₂)
-echoed-only q f p o o₁ o₂ r s x y = (told-once icmp.sentSays echoOf echoOf-says r s _ (x .answer) (y .answer), x .after ∙ sym (y .after))
+pub echo-only : (r s : Echo.EchoSent) (a : Answer icmp.EchoGone) → icmp.echoSentSays r ≡ a → icmp.echoSentSays s ≡ a → r ≡ s
+echo-only r s a p q = told-once icmp.echoSentSays echoOf echoOf-says r s a p q

@@ -8,17 +8,17 @@ use mathlib.Core.List.{List, _++_}
 use lib.ListN.{length, take, drop}
 use lib.Seq.{take-at, drop-at}
 use Rattle.pkt.specs.Answers.{Answer, gives}
-use Rattle.pkt.specs.Fields.{value, Field, field, Bytes}
+use Rattle.pkt.specs.Fields.{value, Field, field, Bytes, widths}
 use Rattle.pkt.specs.Rfc1071.{Verifies, checksum}
 use Rattle.pkt.specs.Rfc791.{ipFields, ipBytes, ipHeader}
 use Rattle.pkt.specs.Rfc768.{pseudo, udpHeader}
 use Rattle.pkt.specs.Rfc792.{icmpNew, echoNew}
 use Rattle.pkt.specs.Written.{written, leaves}
 use Rattle.pkt.specs.declared.ipv4.«ip_hdr».{«ip_hdr»}
-use Rattle.pkt.proofs.Fields.{field-at, widths}
+use Rattle.pkt.proofs.Fields.{field-at}
 use Rattle.pkt.proofs.Headers.{ip-length, ip-verifies, tcp-verifies, udp-verifies, echo-verifies}
 use Rattle.ezpkt.specs.Answers.{builtSays}
-use Rattle.ezpkt.specs.Build.{flowIp, tcpHdr, udpHdr, echoType, tcpPacket, udpPacket, echoPacket, piecePacket, packetOf, sizeOf, answerOf, Answered}
+use Rattle.ezpkt.specs.Build.{flowIp, tcpHdr, udpHdr, echoType, tcpPacket, udpPacket, echoPacket, piecePacket, packetOf, sizeOf, answerOf, Answered, BuiltTotal}
 use Rattle.ezpkt.specs.declared.build.TcpSegment.{TcpSegment}
 use Rattle.ezpkt.specs.declared.build.UdpDatagram.{UdpDatagram}
 use Rattle.ezpkt.specs.declared.build.IcmpEcho.{IcmpEcho}
@@ -93,9 +93,7 @@ total-at h t few =
     let all : List Field = ipFields h (checksum (ipBytes h 0)) in
     field-at (take 2 all) (field 2 (h .«tot_len»)) (drop 3 all) t ∙ omega arith
 
--- The length that is answered is the total length that the packet's header names.
-pub built-total : (q : Request) (p o o′ : List ℕ) (r : Built) (n : ℕ) → Answered q p o r o′ → builtSays r ≡ gives n
-    → value 0 (take 2 (drop 2 (packetOf q p))) ≡ n
+pub built-total : BuiltTotal
 built-total q p o o′ r n x e =
     let (h, t, is, size) = headed q p in
     let a : answerOf q (length p) (length o) ≡ gives n = sym (x .answer) ∙ e in

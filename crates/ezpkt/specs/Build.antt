@@ -4,10 +4,11 @@ use Prim.Native.Nat.{ℕ, _+_, _-_, _*_, min}
 use mathlib.Core.Path.{_≡_}
 use mathlib.Core.Bool.{Bool, not, cond}
 use mathlib.Core.List.{List, _++_}
-use lib.ListN.{length}
+use lib.ListN.{length, take, drop}
 use lib.Seq.{slice}
 use lib.Dec.{ltb, eqb}
-use Rattle.pkt.specs.Answers.{Answer, refused, fitting}
+use Rattle.pkt.specs.Answers.{Answer, refused, gives, fitting, mostTcp, mostUdp, mostIp}
+use Rattle.pkt.specs.Fields.{value}
 use Rattle.pkt.specs.Rfc791.{ipHeader, ipDefault}
 use Rattle.pkt.specs.Rfc768.{udpHeader, udpChecksum}
 use Rattle.pkt.specs.Rfc9293.{tcpHeader, tcpChecksum}
@@ -15,7 +16,7 @@ use Rattle.pkt.specs.Rfc792.{echoHeader, echoChecksum, icmpNew, echoNew}
 use Rattle.pkt.specs.declared.ipv4.«ip_hdr».{«ip_hdr»}
 use Rattle.pkt.specs.declared.ipv4.«tcp_hdr».{«tcp_hdr»}
 use Rattle.pkt.specs.declared.ipv4.«udp_hdr».{«udp_hdr»}
-use Rattle.pkt.specs.Written.{leaves}
+use Rattle.pkt.specs.Written.{Wrote}
 use Rattle.ezpkt.specs.Answers.{builtSays}
 use Rattle.ezpkt.specs.declared.build.TcpSegment.{TcpSegment}
 use Rattle.ezpkt.specs.declared.build.UdpDatagram.{UdpDatagram}
@@ -56,13 +57,13 @@ abbrev pub udpHdr : UdpDatagram → ℕ → «udp_hdr»
 udpHdr u n = record { sport = u .sport; dport = u .dport; len = 8 + n }
 
 -- "the checksum is 0 unless asked for"
-abbrev pub udpField : UdpDatagram → «udp_hdr» → List ℕ → ℕ
-udpField u h p = cond (u .csum) (udpChecksum (u .saddr) (u .daddr) h p) 0
+abbrev pub udpField : UdpDatagram → List ℕ → ℕ
+udpField u p = cond (u .csum) (udpChecksum (u .saddr) (u .daddr) (udpHdr u (length p)) p) 0
 
 unfoldable pub udpPacket : UdpDatagram → List ℕ → List ℕ
 udpPacket u p =
     ipHeader (flowIp 17 (28 + length p) (u .«frag_off») (u .saddr) (u .daddr))
-    ++ (udpHeader (udpHdr u (length p)) (udpField u (udpHdr u (length p)) p) ++ p)
+    ++ (udpHeader (udpHdr u (length p)) (udpField u p) ++ p)
 
 -- ---- an ICMP echo
 
@@ -85,16 +86,16 @@ abbrev pub endOf : IpPiece → ℕ → ℕ
 endOf q n = min (8 * q .off + 8 * q .len) n
 
 -- the bit n where b holds, and no bit where it does not
-abbrev pub bit : Bool → ℕ → ℕ
-bit b n = cond b n 0
+abbrev pub flagBit : Bool → ℕ → ℕ
+flagBit b n = cond b n 0
 
 -- "MF is set exactly if that end is not n"
-abbrev pub more : IpPiece → ℕ → Bool
-more q n = not (eqb (endOf q n) n)
+abbrev pub moreFollow : IpPiece → ℕ → Bool
+moreFollow q n = not (eqb (endOf q n) n)
 
 -- the template's reserved and DF bits, MF, and the offset
 abbrev pub pieceFlags : IpPiece → Bool → ℕ
-pieceFlags q mf = bit (q .template .evil) 0x8000 + bit (q .template .df) 0x4000 + bit mf 0x2000 + q .off
+pieceFlags q mf = flagBit (q .template .evil) 0x8000 + flagBit (q .template .df) 0x4000 + flagBit mf 0x2000 + q .off
 
 abbrev pub pieceIp : IpPiece → ℕ → Bool → «ip_hdr»
 pieceIp q size mf =
@@ -115,7 +116,7 @@ pieceSize q n = 20 + (endOf q n - startOf q n)
 
 unfoldable pub piecePacket : IpPiece → List ℕ → List ℕ
 piecePacket q p =
-    ipHeader (pieceIp q (pieceSize q (length p)) (more q (length p)))
+    ipHeader (pieceIp q (pieceSize q (length p)) (moreFollow q (length p)))
     ++ slice (startOf q (length p)) (endOf q (length p)) p
 
 -- ---- all four
@@ -139,18 +140,23 @@ abbrev pub sizedAnswer : ℕ → ℕ → ℕ → ℕ → Answer ℕ
 sizedAnswer most head n room = cond (ltb most n) (refused 1) (fitting (head + n) room)
 
 -- Refusals 1, 2 and 3.
-abbrev pub pieceAnswer : IpPiece → ℕ → ℕ → Answer ℕ
-pieceAnswer q n room =
-    cond (ltb 65515 n) (refused 1) (cond (ltb 8191 (q .off)) (refused 2) (fitting (pieceSize q n) room))
+abbrev pub fragmentAnswer : IpPiece → ℕ → ℕ → Answer ℕ
+fragmentAnswer q n room =
+    cond (ltb mostIp n) (refused 1) (cond (ltb 8191 (q .off)) (refused 2) (fitting (pieceSize q n) room))
 
 -- the answer, for a payload of n bytes and room for so many
 abbrev pub answerOf : Request → ℕ → ℕ → Answer ℕ
-answerOf (Tcp t) n room = sizedAnswer 65495 40 n room
-answerOf (Udp u) n room = sizedAnswer 65507 28 n room
-answerOf (Echo e) n room = sizedAnswer 65507 28 n room
-answerOf (Piece q) n room = pieceAnswer q n room
+answerOf (Tcp t) n room = sizedAnswer mostTcp 40 n room
+answerOf (Udp u) n room = sizedAnswer mostUdp 28 n room
+answerOf (Echo e) n room = sizedAnswer mostUdp 28 n room
+answerOf (Piece q) n room = fragmentAnswer q n room
 
 -- A call's whole promise: for a request, a payload p and a buffer o before, the one answer and the one buffer after.
-pub record Answered (q : Request) (p o : List ℕ) (r : Built) (o′ : List ℕ) : Type 0 where
-  pub answer : builtSays r ≡ answerOf q (length p) (length o)
-  pub after : o′ ≡ leaves (answerOf q (length p) (length o)) (packetOf q p) o
+abbrev pub Answered : Request → List ℕ → List ℕ → Built → List ℕ → Type 0
+Answered q p o r o′ = Wrote builtSays (answerOf q (length p) (length o)) (packetOf q p) o r o′
+
+-- "the length is the total length written": a length that is answered is the number in the packet's field of its total length, bytes 2 and 3.
+abbrev pub BuiltTotal : Type 0
+BuiltTotal =
+    (q : Request) (p o o′ : List ℕ) (r : Built) (n : ℕ) → Answered q p o r o′ → builtSays r ≡ gives n
+    → value 0 (take 2 (drop 2 (packetOf q p))) ≡ n

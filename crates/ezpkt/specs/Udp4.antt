@@ -7,8 +7,8 @@ use Rattle.ezpkt.specs.declared.udp4.Choices.{Choices}
 use Rattle.ezpkt.specs.declared.udp4.SrcIp.{SrcIp}
 use Rattle.ezpkt.specs.declared.udp4.SrcIp.the-variants.{Own, Other}
 
-abbrev pub newFlow : SocketAddrV4 → SocketAddrV4 → UdpFlow
-newFlow cl sv = record { cl = cl; sv = sv }
+abbrev pub newUdpFlow : SocketAddrV4 → SocketAddrV4 → UdpFlow
+newUdpFlow cl sv = record { cl = cl; sv = sv }
 
 -- the source address: the flow's, or the one chosen
 abbrev pub sourceOf : ℕ → SrcIp → ℕ

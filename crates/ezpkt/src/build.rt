@@ -2,11 +2,13 @@
 use crate::ip4::Template;
 use crate::write;
 use pkt::ipv4::tcp_hdr;
+use pkt::limit;
 use pkt::refusal;
 ghost use mathlib.Core.Path.{_≡_};
 ghost use Prim.Native.Nat.{_≤_};
+ghost use Rattle.pkt.specs.Answers.{mostIp};
 ghost use Rattle.ezpkt.specs.Answers.{builtSays};
-ghost use Rattle.ezpkt.specs.Build.{tcpHdr, sizedAnswer, pieceAnswer, answerOf, Answered};
+ghost use Rattle.ezpkt.specs.Build.{tcpHdr, sizedAnswer, fragmentAnswer, answerOf, Answered};
 
 // A TCP segment between two addresses and ports.
 #[repr(C)]
@@ -79,7 +81,7 @@ pub enum Built {
 
 // A packet of head bytes and n more, of which there may be at most most.
 fn sized(most: usize, head: usize, n: usize, room: usize) -> Built
-    requires { ⌜ (most ≤ 65515) × (head ≤ 40) ⌝ }
+    requires { ⌜ (most ≤ mostIp) × (head ≤ 40) ⌝ }
     ensures { λ r. ⌜ builtSays r ≡ sizedAnswer most head n room ⌝ }
 {
     if n > most {
@@ -93,10 +95,10 @@ fn sized(most: usize, head: usize, n: usize, room: usize) -> Built
 }
 
 fn sized_piece(q: IpPiece, n: usize, room: usize) -> Built
-    ensures { λ r. ⌜ builtSays r ≡ pieceAnswer q n room ⌝ }
+    ensures { λ r. ⌜ builtSays r ≡ fragmentAnswer q n room ⌝ }
 {
     let off = q.off;
-    if n > 65515 {
+    if n > limit::IP_PAYLOAD {
         return Built::Refused(refusal::TOO_LONG);
     }
     if off > 8191 {
@@ -115,9 +117,9 @@ pub fn answer(req: Request, n: usize, room: usize) -> Built
     ensures { λ r. ⌜ builtSays r ≡ answerOf req n room ⌝ }
 {
     match req {
-        Request::Tcp(_) => sized(65495, 40, n, room),
-        Request::Udp(_) => sized(65507, 28, n, room),
-        Request::Echo(_) => sized(65507, 28, n, room),
+        Request::Tcp(_) => sized(limit::TCP_PAYLOAD, 40, n, room),
+        Request::Udp(_) => sized(limit::UDP_PAYLOAD, 28, n, room),
+        Request::Echo(_) => sized(limit::UDP_PAYLOAD, 28, n, room),
         Request::Piece(q) => sized_piece(q, n, room),
     }
 }

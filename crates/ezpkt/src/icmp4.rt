@@ -5,7 +5,7 @@ use crate::build::IcmpEcho;
 use crate::build::Request;
 ghost use mathlib.Core.Path.{_≡_};
 ghost use Rattle.ezpkt.specs.Answers.{builtSays};
-ghost use Rattle.ezpkt.specs.Icmp4.{newFlow, sentSays, withFlow, Echoed, pingOf, pongOf, pinged, ponged};
+ghost use Rattle.ezpkt.specs.Icmp4.{newIcmpFlow, echoSentSays, withFlow, Echoed, pingOf, pongOf, pinged, ponged};
 
 // The numbers of the next echo and of the next reply. They count apart.
 #[repr(C)]
@@ -17,24 +17,25 @@ pub struct IcmpFlow {
 }
 
 // The flow after a packet and the packet's length, or the number of the refusal.
-pub enum Sent {
+pub enum EchoSent {
     Packet(IcmpFlow, usize),
     Refused(u8),
 }
 
 // The flow with the packet, if there is one.
-fn with_flow(built: Built, flow: IcmpFlow) -> Sent
-    ensures { λ r. ⌜ sentSays r ≡ withFlow flow (builtSays built) ⌝ }
+fn with_flow(built: Built, flow: IcmpFlow) -> EchoSent
+    ensures { λ r. ⌜ echoSentSays r ≡ withFlow flow (builtSays built) ⌝ }
 {
     match built {
-        Built::Packet(size) => Sent::Packet(flow, size),
-        Built::Refused(number) => Sent::Refused(number),
+        Built::Packet(size) => EchoSent::Packet(flow, size),
+        Built::Refused(number) => EchoSent::Refused(number),
     }
 }
 
 impl IcmpFlow {
+    // A flow between two addresses, both numbers 0.
     pub fn new(cl: u32, sv: u32) -> Self
-        ensures { λ r. ⌜ r ≡ newFlow cl sv ⌝ }
+        ensures { λ r. ⌜ r ≡ newIcmpFlow cl sv ⌝ }
     {
         Self {
             cl,
@@ -44,7 +45,8 @@ impl IcmpFlow {
         }
     }
 
-    pub fn echo(self, bytes: &[u8], out: &mut [u8]) -> Sent
+    // The client's next echo, carrying bytes, at the start of out; the ping number moves on.
+    pub fn echo(self, bytes: &[u8], out: &mut [u8]) -> EchoSent
         ensures { λ r. ⌜ Echoed (pingOf self) (pinged self) (now (bytes .entry)) (now (out .entry)) r (now (out .exit)) ⌝ }
     {
         let request = IcmpEcho {
@@ -58,7 +60,8 @@ impl IcmpFlow {
         with_flow(build::build(Request::Echo(request), bytes, out), next)
     }
 
-    pub fn echo_reply(self, bytes: &[u8], out: &mut [u8]) -> Sent
+    // The server's next reply, carrying bytes, at the start of out; the pong number moves on.
+    pub fn echo_reply(self, bytes: &[u8], out: &mut [u8]) -> EchoSent
         ensures { λ r. ⌜ Echoed (pongOf self) (ponged self) (now (bytes .entry)) (now (out .entry)) r (now (out .exit)) ⌝ }
     {
         let request = IcmpEcho {

@@ -6,7 +6,7 @@ use crate::build::Request;
 use crate::build::UdpDatagram;
 use crate::part;
 ghost use Rattle.ezpkt.specs.Build.{Answered};
-ghost use Rattle.ezpkt.specs.Udp4.{newFlow, dgramOf, sourceOf};
+ghost use Rattle.ezpkt.specs.Udp4.{newUdpFlow, dgramOf, sourceOf};
 ghost use mathlib.Core.Path.{_≡_};
 ghost use lib.ListN.{take, drop};
 ghost use Rattle.ezpkt.specs.declared.build.Request.the-variants.{Udp};
@@ -54,12 +54,14 @@ fn dgram(from: SocketAddrV4, to: SocketAddrV4, choices: Choices) -> UdpDatagram
 }
 
 impl UdpFlow {
+    // A flow between two ends.
     pub fn new(cl: SocketAddrV4, sv: SocketAddrV4) -> Self
-        ensures { λ r. ⌜ r ≡ newFlow cl sv ⌝ }
+        ensures { λ r. ⌜ r ≡ newUdpFlow cl sv ⌝ }
     {
         Self { cl, sv }
     }
 
+    // A datagram from the client to the server, carrying bytes, at the start of out.
     pub fn client_dgram(self, bytes: &[u8], choices: Choices, out: &mut [u8]) -> Built
         ensures { λ r. ⌜ Answered (Udp (dgramOf (self .cl) (self .sv) choices)) (now (bytes .entry)) (now (out .entry)) r (now (out .exit)) ⌝ }
     {
@@ -68,6 +70,7 @@ impl UdpFlow {
         build::build(Request::Udp(dgram(cl, sv, choices)), bytes, out)
     }
 
+    // A datagram from the server to the client, carrying bytes, at the start of out.
     pub fn server_dgram(self, bytes: &[u8], choices: Choices, out: &mut [u8]) -> Built
         ensures { λ r. ⌜ Answered (Udp (dgramOf (self .sv) (self .cl) choices)) (now (bytes .entry)) (now (out .entry)) r (now (out .exit)) ⌝ }
     {

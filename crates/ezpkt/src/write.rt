@@ -15,10 +15,10 @@ ghost use mathlib.Core.List.{_++_};
 ghost use Prim.Native.Nat.{_+_, _≤_, min};
 ghost use lib.ListN.{length};
 ghost use Rattle.pkt.specs.Written.{written};
-ghost use Rattle.pkt.specs.Answers.{gives};
+ghost use Rattle.pkt.specs.Answers.{gives, mostTcp, mostUdp, mostIp};
 ghost use Rattle.pkt.specs.Rfc791.{ipHeader};
 ghost use Rattle.ezpkt.specs.Answers.{summed};
-ghost use Rattle.ezpkt.specs.Build.{flowIp, udpField, echoType, startOf, endOf, pieceFlags, pieceIp, bit, tcpPacket, udpPacket, echoPacket, piecePacket, packetOf, answerOf, sizeOf};
+ghost use Rattle.ezpkt.specs.Build.{flowIp, udpHdr, udpField, echoType, startOf, endOf, pieceFlags, pieceIp, flagBit, tcpPacket, udpPacket, echoPacket, piecePacket, packetOf, answerOf, sizeOf};
 ghost use Rattle.ezpkt.specs.declared.build.Request.the-variants.{Piece};
 
 // src at the start of dst, whose other bytes stay.
@@ -64,7 +64,7 @@ fn number(sum: Sum) -> u16
 }
 
 fn tcp(t: TcpSegment, payload: &[u8], out: &mut [u8])
-    requires { ⌜ (length (now payload) ≤ 65495) × (40 + length (now payload) ≤ length (now out)) ⌝ }
+    requires { ⌜ (length (now payload) ≤ mostTcp) × (40 + length (now payload) ≤ length (now out)) ⌝ }
     ensures { λ _. ⌜ now (out .exit) ≡ written (tcpPacket t (now (payload .entry))) (now (out .entry)) ⌝ }
 {
     let h = t.hdr();
@@ -81,7 +81,7 @@ fn tcp(t: TcpSegment, payload: &[u8], out: &mut [u8])
 }
 
 fn udp(u: UdpDatagram, payload: &[u8], out: &mut [u8])
-    requires { ⌜ (length (now payload) ≤ 65507) × (28 + length (now payload) ≤ length (now out)) ⌝ }
+    requires { ⌜ (length (now payload) ≤ mostUdp) × (28 + length (now payload) ≤ length (now out)) ⌝ }
     ensures { λ _. ⌜ now (out .exit) ≡ written (udpPacket u (now (payload .entry))) (now (out .entry)) ⌝ }
 {
     let n = payload.len();
@@ -102,10 +102,10 @@ fn udp(u: UdpDatagram, payload: &[u8], out: &mut [u8])
     put_all(&ip, &head, payload, out);
 }
 
-// The checksum's field: 0 unless a checksum is asked for.
+// The checksum's field of the datagram with the header h: 0 unless a checksum is asked for.
 fn udp_field(u: UdpDatagram, h: udp_hdr, payload: &[u8]) -> u16
-    requires { ⌜ length (now payload) ≤ 65507 ⌝ }
-    ensures { λ r. ⌜ r ≡ udpField u h (now (payload .entry)) ⌝ }
+    requires { ⌜ (length (now payload) ≤ mostUdp) × (h ≡ udpHdr u (length (now payload))) ⌝ }
+    ensures { λ r. ⌜ r ≡ udpField u (now (payload .entry)) ⌝ }
 {
     if u.csum {
         return number(ipv4::udp_csum(u.saddr, u.daddr, h, payload));
@@ -124,7 +124,7 @@ fn echo_type(reply: bool) -> u8
 }
 
 fn echo(e: IcmpEcho, payload: &[u8], out: &mut [u8])
-    requires { ⌜ (length (now payload) ≤ 65507) × (28 + length (now payload) ≤ length (now out)) ⌝ }
+    requires { ⌜ (length (now payload) ≤ mostUdp) × (28 + length (now payload) ≤ length (now out)) ⌝ }
     ensures { λ _. ⌜ now (out .exit) ≡ written (echoPacket e (now (payload .entry))) (now (out .entry)) ⌝ }
 {
     let h = icmp_hdr::new(echo_type(e.reply));
@@ -165,7 +165,7 @@ pub(crate) fn span_of(q: IpPiece, n: usize) -> Span
 
 // The bit n where on holds, and no bit where it does not.
 fn bit(on: bool, n: u16) -> u16
-    ensures { λ r. ⌜ (r ≡ bit on n) × (r ≤ n) ⌝ }
+    ensures { λ r. ⌜ (r ≡ flagBit on n) × (r ≤ n) ⌝ }
 {
     if on { n } else { 0 }
 }
@@ -200,7 +200,7 @@ fn piece_ip(q: IpPiece, size: u16, more: bool) -> [u8; 20]
 }
 
 fn piece(q: IpPiece, payload: &[u8], out: &mut [u8])
-    requires { ⌜ (length (now payload) ≤ 65515) × (q .off ≤ 8191) × (sizeOf (Piece q) (length (now payload)) ≤ length (now out)) ⌝ }
+    requires { ⌜ (length (now payload) ≤ mostIp) × (q .off ≤ 8191) × (sizeOf (Piece q) (length (now payload)) ≤ length (now out)) ⌝ }
     ensures { λ _. ⌜ now (out .exit) ≡ written (piecePacket q (now (payload .entry))) (now (out .entry)) ⌝ }
 {
     let n = payload.len();

@@ -6,12 +6,11 @@ use native.Mathlib.Omega.{arith}
 use mathlib.Core.List.{List, _++_}
 use lib.ListN.{length, take}
 use lib.Dec.{ltb, eqb}
-use borrow.Author.Tests.{ltb-false, le-ltb}
+use borrow.Author.Tests.{ltb-false}
 use Rattle.pkt.specs.Answers.{Answer, refused, gives, andThen}
 use Rattle.inspect.specs.Header.{fieldAt, lengthField, readAnswer, dataOf}
-use Rattle.inspect.specs.Check.{isCut, sumsAnswer, verdictOf, partAnswer, checkAnswer}
+use Rattle.inspect.specs.Check.{isCut, partAnswer, checkAnswer}
 use Rattle.inspect.specs.declared.header.IpRead.{IpRead}
-use Rattle.inspect.specs.declared.check.Kind.{Kind}
 use Rattle.pkt.proofs.Choice.{or-no}
 use Rattle.inspect.proofs.Numbers.{part-front}
 use Rattle.inspect.proofs.Reading.{read-framed, read-total, read-front}
@@ -26,10 +25,6 @@ not-cut p d e = go (eqb p 6) (eqb p 17) e
     go true u q = let h = ltb-false (length d) 20 (or-no (ltb (length d) 20) _ q .0) in omega arith
     go false true q = ltb-false (length d) 8 (or-no (ltb (length d) 8) _ q .0)
     go false false q = ltb-false (length d) 8 q
-
--- A part of no more bytes than a packet can have is summed.
-pub sums-short : (k : Kind) (h : IpRead) (d : List ℕ) → length d ≤ 65515 → sumsAnswer k h d ≡ verdictOf k h d
-sums-short k h d s = ap (λ (t : Bool). cond t (refused 1) (verdictOf k h d)) (le-ltb 65515 (length d) s)
 
 -- The check's answer is that of the first bytes, as many as the total length says, whatever is behind them.
 pub check-front : (l r : List ℕ) → 20 ≤ lengthField l → lengthField l ≤ length l → checkAnswer (take (lengthField l) l ++ r) ≡ checkAnswer l

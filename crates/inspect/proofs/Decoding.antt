@@ -9,17 +9,16 @@ use lib.Seq.{take-at, drop-at}
 use lib.Dec.{eqb}
 use borrow.Author.Tests.{le-ltb, eq-eqb}
 use Rattle.pkt.specs.Answers.{Answer, refused, gives, andThen}
-use Rattle.pkt.specs.Fields.{Field, field}
+use Rattle.pkt.specs.Fields.{Field, field, widths}
 use Rattle.pkt.specs.Rfc1071.{checksum, verifies}
 use Rattle.pkt.specs.Rfc791.{ipFields, ipBytes, ipHeader}
 use Rattle.pkt.specs.declared.ipv4.«ip_hdr».{«ip_hdr»}
-use Rattle.pkt.proofs.Fields.{field-at, widths}
+use Rattle.pkt.proofs.Fields.{field-at}
 use Rattle.pkt.proofs.Headers.{ip-length, ip-verifies}
-use Rattle.inspect.specs.Header.{fieldAt, hasBit, headerOf, frameAnswer, readAnswer, dataOf}
+use Rattle.inspect.specs.Header.{fieldAt, hasBit, headerOf, frameAnswer, summed, readAnswer, dataOf}
 use Rattle.inspect.specs.Encoded.{readOf}
 use Rattle.inspect.specs.Check.{partAnswer, checkAnswer}
 use Rattle.inspect.specs.declared.header.IpRead.{IpRead}
-use Rattle.inspect.proofs.Reading.{summed}
 
 -- The numbers of a header fit their fields.
 pub record Fit (h : «ip_hdr») : Type 0 where

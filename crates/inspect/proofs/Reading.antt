@@ -8,7 +8,7 @@ use lib.ListN.{length, take, length-append, length-take}
 use lib.Dec.{ltb, eqb}
 use borrow.Author.Tests.{le-ltb, ltb-false, not-false, eqb-true}
 use Rattle.pkt.specs.Answers.{Answer, refused, gives, andThen}
-use Rattle.inspect.specs.Header.{fieldAt, headerOf, lengthField, frameAnswer, readAnswer}
+use Rattle.inspect.specs.Header.{fieldAt, headerOf, lengthField, frameAnswer, summed, readAnswer}
 use Rattle.inspect.specs.declared.header.IpRead.{IpRead}
 use Rattle.pkt.specs.Fields.{Bytes}
 use Rattle.pkt.proofs.Deciding.{past, held}
@@ -19,7 +19,8 @@ use Rattle.pkt.specs.Rfc1071.{verifies}
 pub record Framed (l : List ℕ) (h : IpRead) : Type 0 where
   pub first : fieldAt l 0 1 ≡ 0x45
   pub is : h ≡ headerOf l
-  pub head : h .start ≡ 20
+  pub least : 20 ≤ h .start
+  pub most : h .start ≤ 60
   pub order : h .start ≤ h .end
   pub all : h .end ≤ length l
   pub offset : h .off ≤ 8191
@@ -35,15 +36,12 @@ framed l h e =
     record {
       first = eqb-true (fieldAt l 0 1) 0x45 (not-false (eqb (fieldAt l 0 1) 0x45) (b .0));
       is = sym q;
-      head = rw (← q) refl;
+      least = rw (← q) (omega arith);
+      most = rw (← q) (omega arith);
       order = rw (← q) (ltb-false (headerOf l .end) (headerOf l .start) (d .0));
       all = rw (← q) (ltb-false (length l) (headerOf l .end) (f .0));
       offset = rw (← q) (omega arith);
     }
-
--- what is asked of a header that was framed
-abbrev pub summed : List ℕ → IpRead → Answer IpRead
-summed l h = cond (verifies (take (h .start) l)) (gives h) (refused 7)
 
 -- A header that was read is framed, and verifies.
 pub was-read : (l : List ℕ) (h : IpRead) → readAnswer l ≡ gives h → (frameAnswer l ≡ gives h) × (verifies (take (h .start) l) ≡ true)
@@ -60,9 +58,12 @@ pub read-framed : (l : List ℕ) (h : IpRead) → readAnswer l ≡ gives h → F
 read-framed l h e = framed l h (was-read l h e .0)
 
 -- The total length fits its two bytes.
-pub read-end : (l : List ℕ) (h : IpRead) → Bytes l → readAnswer l ≡ gives h → h .end ≤ 65535
+pub frame-end : (l : List ℕ) (h : IpRead) → Bytes l → frameAnswer l ≡ gives h → h .end ≤ 65535
 unfolding headerOf
-read-end l h b e = rw (read-framed l h e .is) (omega (arith, field-below 2 2 l b))
+frame-end l h b e = rw (framed l h e .is) (omega (arith, field-below 2 2 l b))
+
+pub read-end : (l : List ℕ) (h : IpRead) → Bytes l → readAnswer l ≡ gives h → h .end ≤ 65535
+read-end l h b e = frame-end l h b (was-read l h e .0)
 
 -- a step of reading: what is framed is read exactly if its header verifies
 pub read-step : (l : List ℕ) (h : IpRead) (t : Bool) → frameAnswer l ≡ gives h → t ≡ verifies (take (h .start - 0) l)

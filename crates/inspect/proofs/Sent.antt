@@ -7,7 +7,7 @@ use mathlib.Core.List.{List, [], _++_}
 use lib.ListN.{length, take, drop, length-append}
 use borrow.Author.Tests.{le-ltb, eq-eqb, ne-eqb}
 use Rattle.pkt.specs.Answers.{Answer, refused, gives, andThen}
-use Rattle.pkt.specs.Fields.{field, Bytes}
+use Rattle.pkt.specs.Fields.{field, Bytes, widths}
 use Rattle.pkt.specs.Rfc1071.{words, sum, checksum, verifies}
 use Rattle.pkt.specs.Rfc768.{pseudo, udpFields, udpHeader, udpChecksum}
 use Rattle.pkt.specs.Rfc9293.{tcpFields, tcpHeader, tcpChecksum}
@@ -17,10 +17,11 @@ use Rattle.pkt.specs.declared.ipv4.«udp_hdr».{«udp_hdr»}
 use Rattle.pkt.specs.declared.ipv4.«icmp_hdr».{«icmp_hdr»}
 use Rattle.pkt.specs.declared.ipv4.«icmp_echo_hdr».{«icmp_echo_hdr»}
 use Rattle.pkt.proofs.Checksum.{checksum-most, nonzero-range}
-use Rattle.pkt.proofs.Fields.{field-at, widths}
+use Rattle.pkt.proofs.Fields.{field-at}
 use Rattle.pkt.proofs.Headers.{tcp-length, udp-length, echo-length, tcp-verifies, udp-verifies, echo-verifies}
 use Rattle.inspect.specs.Answers.{Verdict, good, noChecksum}
 use Rattle.inspect.specs.Header.{fieldAt}
+use Rattle.inspect.proofs.Standing.{sums-stand, tcp-offset}
 use Rattle.inspect.specs.Check.{isPiece, isOther, isCut, kindOf, wholeAnswer, unlessBad, verdictOf, partAnswer}
 use Rattle.inspect.specs.declared.header.IpRead.{IpRead}
 use Rattle.inspect.specs.declared.check.Kind.{Kind}
@@ -54,17 +55,9 @@ verified l e = ap unlessBad (eq-eqb (sum (words l)) 65535 e)
 
 -- ---- the fields that the check reads
 
-tcp-offset : (t : «tcp_hdr») (c : ℕ) (p : List ℕ) → fieldAt (tcpHeader t c ++ p) 12 1 ≡ 0x50
-unfolding fieldAt tcpHeader widths
-tcp-offset t c p = field-at (take 4 (tcpFields t c)) (field 1 0x50) (drop 5 (tcpFields t c)) p
-
 udp-len : (u : «udp_hdr») (c : ℕ) (p : List ℕ) → u .len < 65536 → fieldAt (udpHeader u c ++ p) 4 2 ≡ u .len
 unfolding fieldAt udpHeader widths
 udp-len u c p few = field-at (take 2 (udpFields u c)) (field 2 (u .len)) (drop 3 (udpFields u c)) p ∙ omega arith
-
-udp-sum : (u : «udp_hdr») (c : ℕ) (p : List ℕ) → c ≤ 65535 → fieldAt (udpHeader u c ++ p) 6 2 ≡ c
-unfolding fieldAt udpHeader widths
-udp-sum u c p most = field-at (take 3 (udpFields u c)) (field 2 c) [] p ∙ omega arith
 
 udp-whole : (u : «udp_hdr») (c : ℕ) (p : List ℕ) → u .len ≡ 8 + length p → u .len < 65536 → isCut 17 (udpHeader u c ++ p) ≡ false
 udp-whole u c p len few =
@@ -106,7 +99,7 @@ module _ (h : IpRead) (p : List ℕ) (bp : Bytes p) (piece : isPiece h ≡ false
       let c : ℕ = udpChecksum (h .saddr) (h .daddr) u p in
       let d : List ℕ = udpHeader u c ++ p in
       let size : length d ≡ 8 + length p = length-append (udpHeader u c) p ∙ ap (λ (n : ℕ). n + length p) (udp-length u c) in
-      let sent : fieldAt d 6 2 ≡ c = udp-sum u c p (udp-checksum-most (h .saddr) (h .daddr) u p) in
+      let sent : fieldAt d 6 2 ≡ c = sums-stand .udp u c p (udp-checksum-most (h .saddr) (h .daddr) u p) in
       let some = ne-eqb (fieldAt d 6 2) 0 (λ z. udp-checksum-some (h .saddr) (h .daddr) u p (sym sent ∙ z)) in
       whole-summed h 17 d Udp piece seventeen refl (udp-whole u c p len few) (simp some)
       ∙ verified (pseudo (h .saddr) (h .daddr) 17 (length d) ++ d) (rw size (udp-verifies (h .saddr) (h .daddr) p bp u))
@@ -116,7 +109,7 @@ module _ (h : IpRead) (p : List ℕ) (bp : Bytes p) (piece : isPiece h ≡ false
   unfolding verdictOf
   udp-bare u seventeen len few =
       let d : List ℕ = udpHeader u 0 ++ p in
-      let none = eq-eqb (fieldAt d 6 2) 0 (udp-sum u 0 p (omega arith)) in
+      let none = eq-eqb (fieldAt d 6 2) 0 (sums-stand .udp u 0 p (omega arith)) in
       whole-summed h 17 d Bare piece seventeen refl (udp-whole u 0 p len few) (simp none)
 
   -- an echo

@@ -1,13 +1,13 @@
--- The check of a finished packet: document 01, 'Check of a finished packet' and its numbers 13, 12, 14 and 15, and 1 of its second step alone.
+-- The check of a finished packet: document 01, 'Check of a finished packet' and its numbers 13, 12, 14 and 15.
 use Prim.Native.Nat.{ℕ}
 use mathlib.Core.Bool.{Bool, not, _&&_, _||_, cond}
 use mathlib.Core.List.{List, _++_}
 use lib.ListN.{length}
 use lib.Dec.{ltb, eqb}
-use Rattle.pkt.specs.Answers.{Answer, refused, gives, andThen}
-use Rattle.pkt.specs.Rfc768.{pseudo}
-use Rattle.inspect.specs.Answers.{Verdict, good, noChecksum}
-use Rattle.inspect.specs.Header.{fieldAt, readAnswer, dataOf}
+use Rattle.pkt.specs.Answers.{Answer, refused, gives, mapped, andThen}
+use Rattle.pkt.specs.Rfc768.{pseudo, udpSumAt}
+use Rattle.inspect.specs.Answers.{Whole, whole, Verdict, good, noChecksum}
+use Rattle.inspect.specs.Header.{fieldAt, frameAnswer, readAnswer, dataOf}
 use Rattle.inspect.specs.declared.header.IpRead.{IpRead}
 use Rattle.inspect.specs.declared.check.Kind.{Kind}
 use Rattle.inspect.specs.declared.check.Kind.the-variants.{Tcp, Udp, Bare, Icmp}
@@ -37,7 +37,7 @@ isCut p d = cond (eqb p 6) (tcpCut d) (cond (eqb p 17) (udpCut d) (ltb (length d
 
 -- the kind of a transport part: TCP, UDP, UDP whose checksum's field is 0, ICMP
 abbrev pub kindOf : ℕ → List ℕ → Kind
-kindOf p d = cond (eqb p 6) Tcp (cond (eqb p 17) (cond (eqb (fieldAt d 6 2) 0) Bare Udp) Icmp)
+kindOf p d = cond (eqb p 6) Tcp (cond (eqb p 17) (cond (eqb (fieldAt d udpSumAt 2) 0) Bare Udp) Icmp)
 
 -- What kind of packet a header and its data part are, and whether it is whole: 13, 12, 14.
 unfoldable pub wholeAnswer : IpRead → List ℕ → Answer Kind
@@ -60,10 +60,6 @@ verdictOf Udp h d = unlessBad (verifiesBehindPseudo h 17 d)
 verdictOf Bare h d = gives noChecksum
 verdictOf Icmp h d = unlessBad (verifies d)
 
--- The same of any data part: 1, "payload above .. 65,515 (IPv4 payload)", comes first.
-abbrev pub sumsAnswer : Kind → IpRead → List ℕ → Answer Verdict
-sumsAnswer k h d = cond (ltb 65515 (length d)) (refused 1) (verdictOf k h d)
-
 -- a header and its data part: 13, 12, 14, 15
 abbrev pub partAnswer : IpRead → List ℕ → Answer Verdict
 partAnswer h d = andThen (wholeAnswer h d) (λ k. verdictOf k h d)
@@ -71,3 +67,7 @@ partAnswer h d = andThen (wholeAnswer h d) (λ k. verdictOf k h d)
 -- the check's answer: 4, 5, 6, 4, 7, 13, 12, 14, 15
 unfoldable pub checkAnswer : List ℕ → Answer Verdict
 checkAnswer l = andThen (readAnswer l) (λ h. partAnswer h (dataOf h l))
+
+-- the answer of the check up to its sums, the header and the kind of what it would call good if 7 and 15 were never given: 4, 5, 6, 4, 13, 12, 14
+unfoldable pub examineAnswer : List ℕ → Answer Whole
+examineAnswer l = andThen (frameAnswer l) (λ h. mapped (whole h) (wholeAnswer h (dataOf h l)))

@@ -56,9 +56,13 @@ abbrev pub isZero : Sum → Bool
 isZero (csum.Is c) = eqb c 0
 isZero (csum.Refused n) = false
 
--- the reader's answer: 4, 5, 6, 4, then 7, "IPv4 header checksum does not verify", or the header's fields
+-- 7, "IPv4 header checksum does not verify", of a packet l with the header h
+abbrev pub summed : List ℕ → IpRead → Answer IpRead
+summed l h = cond (verifies (take (h .start) l)) (gives h) (refused 7)
+
+-- the reader's answer: 4, 5, 6, 4, then 7, or the header's fields
 unfoldable pub readAnswer : List ℕ → Answer IpRead
-readAnswer l = andThen (frameAnswer l) (λ h. cond (verifies (take (h .start) l)) (gives h) (refused 7))
+readAnswer l = andThen (frameAnswer l) (summed l)
 
 -- the data part of a packet l with the header h
 abbrev pub dataOf : IpRead → List ℕ → List ℕ

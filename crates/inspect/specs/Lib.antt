@@ -1,4 +1,5 @@
 pub mod Answers
 pub mod Header
 pub mod Check
+pub mod Tcp
 pub mod Encoded

@@ -9,8 +9,9 @@ use pkt::refusal;
 ghost use mathlib.Core.Path.{_≡_};
 ghost use Prim.Native.Nat.{_≤_};
 ghost use lib.ListN.{length};
-ghost use Rattle.inspect.specs.Answers.{foundSays, checkedSays};
-ghost use Rattle.inspect.specs.Check.{isPiece, isOther, tcpCut, udpCut, isCut, kindOf, wholeAnswer, verifiesBehindPseudo, unlessBad, sumsAnswer, partAnswer, checkAnswer};
+ghost use Rattle.pkt.specs.Answers.{mapped, mostIp};
+ghost use Rattle.inspect.specs.Answers.{foundSays, whole, examinedSays, checkedSays};
+ghost use Rattle.inspect.specs.Check.{isPiece, isOther, tcpCut, udpCut, isCut, kindOf, wholeAnswer, verifiesBehindPseudo, unlessBad, verdictOf, partAnswer, checkAnswer, examineAnswer};
 
 // The kinds of whole packets. Bare is UDP with a checksum field of 0.
 pub enum Kind {
@@ -20,8 +21,14 @@ pub enum Kind {
     Icmp,
 }
 
+// A whole packet's header and kind, or the number of the refusal.
+pub enum Examined {
+    Whole(IpRead, Kind),
+    Refused(u8),
+}
+
 // The kind of a whole packet, or the number of the refusal.
-pub enum Found {
+enum Found {
     Is(Kind),
     Refused(u8),
 }
@@ -51,7 +58,7 @@ fn is_other(protocol: u8) -> bool
     protocol != proto::UDP
 }
 
-fn tcp_cut(part: &[u8]) -> bool
+pub(crate) fn tcp_cut(part: &[u8]) -> bool
     ensures { λ r. ⌜ r ≡ tcpCut (now (part .entry)) ⌝ }
 {
     if part.len() < 20 {
@@ -99,13 +106,15 @@ fn kind_of(protocol: u8, part: &[u8]) -> Kind
 }
 
 // The first step: what kind of packet a header and its data part are, and whether it is whole.
-pub fn whole(h: IpRead, part: &[u8]) -> Found
+fn whole(h: IpRead, part: &[u8]) -> Found
     ensures { λ r. ⌜ foundSays r ≡ wholeAnswer h (now (part .entry)) ⌝ }
 {
-    if is_piece(h) {
+    let piece = is_piece(h);
+    let other = is_other(h.protocol);
+    if piece {
         return Found::Refused(refusal::PIECE);
     }
-    if is_other(h.protocol) {
+    if other {
         return Found::Refused(refusal::OTHER_PROTOCOL);
     }
     if is_cut(h.protocol, part) {
@@ -116,7 +125,7 @@ pub fn whole(h: IpRead, part: &[u8]) -> Found
 
 // Whether a transport part verifies behind the pseudo header with the addresses of its header.
 fn verify_part(h: IpRead, protocol: u8, part: &[u8]) -> bool
-    requires { ⌜ length (now part) ≤ 65515 ⌝ }
+    requires { ⌜ length (now part) ≤ mostIp ⌝ }
     ensures { λ r. ⌜ r ≡ verifiesBehindPseudo h protocol (now (part .entry)) ⌝ }
 {
     header::is_zero(ipv4::transport_csum(h.saddr, h.daddr, protocol, part))
@@ -134,12 +143,10 @@ fn unless_bad(good: bool) -> Checked
 
 // The second step: whether the sums of a whole packet of this kind verify. A UDP field of 0 is not
 // summed.
-pub fn sums(kind: Kind, h: IpRead, part: &[u8]) -> Checked
-    ensures { λ r. ⌜ checkedSays r ≡ sumsAnswer kind h (now (part .entry)) ⌝ }
+fn sums(kind: Kind, h: IpRead, part: &[u8]) -> Checked
+    requires { ⌜ length (now part) ≤ mostIp ⌝ }
+    ensures { λ r. ⌜ checkedSays r ≡ verdictOf kind h (now (part .entry)) ⌝ }
 {
-    if part.len() > 65515 {
-        return Checked::Refused(refusal::TOO_LONG);
-    }
     match kind {
         Kind::Tcp => unless_bad(verify_part(h, proto::TCP, part)),
         Kind::Udp => unless_bad(verify_part(h, proto::UDP, part)),
@@ -150,7 +157,7 @@ pub fn sums(kind: Kind, h: IpRead, part: &[u8]) -> Checked
 
 // Both steps, one after the other.
 fn both(h: IpRead, part: &[u8]) -> Checked
-    requires { ⌜ length (now part) ≤ 65515 ⌝ }
+    requires { ⌜ length (now part) ≤ mostIp ⌝ }
     ensures { λ r. ⌜ checkedSays r ≡ partAnswer h (now (part .entry)) ⌝ }
 {
     match whole(h, part) {
@@ -169,6 +176,31 @@ pub fn check(packet: &[u8]) -> Checked
             let start = h.start;
             let end = h.end;
             both(h, &packet[start..end])
+        }
+    }
+}
+
+// A kind that was found, with the header.
+fn with_header(h: IpRead, found: Found) -> Examined
+    ensures { λ r. ⌜ examinedSays r ≡ mapped (whole h) (foundSays found) ⌝ }
+{
+    match found {
+        Found::Is(kind) => Examined::Whole(h, kind),
+        Found::Refused(number) => Examined::Refused(number),
+    }
+}
+
+// The header and the kind of a packet that the check would call good, with or without checksum, if it asked for no sum: neither 7 nor 15
+// is given. Bytes after its total length do not count.
+pub fn examine(packet: &[u8]) -> Examined
+    ensures { λ r. ⌜ examinedSays r ≡ examineAnswer (now (packet .entry)) ⌝ }
+{
+    match header::frame(packet) {
+        Seen::Refused(number) => Examined::Refused(number),
+        Seen::Packet(h) => {
+            let start = h.start;
+            let end = h.end;
+            with_header(h, whole(h, &packet[start..end]))
         }
     }
 }

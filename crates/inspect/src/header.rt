@@ -82,7 +82,7 @@ fn fields(packet: &[u8]) -> IpRead
 }
 
 // The header of a packet that is all there, whatever its checksum.
-fn frame(packet: &[u8]) -> Seen
+pub fn frame(packet: &[u8]) -> Seen
     ensures { λ r. ⌜ readSays r ≡ frameAnswer (now (packet .entry)) ⌝ }
 {
     let n = packet.len();

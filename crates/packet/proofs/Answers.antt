@@ -16,12 +16,12 @@ given : {A : Type 0} (t : Bool) (x : ℕ) (rest : Answer A) (a : A) → cond t r
 given true x rest a e = (refl, e)
 given false x rest a e = let z : _≡_ {A = ℕ} 0 1 = cc in absurd (omega arith)
 
--- Bytes that are appended have room.
-pub push-fits : (p : Packet) (k n : ℕ) (g : Grown) → pushAnswer p k n ≡ gives g → p .end + k ≤ n
+-- Bytes that are appended have room behind a packet that is valid.
+pub push-fits : (p : Packet) (k n : ℕ) (g : Grown) → pushAnswer p k n ≡ gives g → (valid p n ≡ true) × (p .end + k ≤ n)
 push-fits p k n g e =
     let (v, e₁) = given (valid p n) 16 _ g e in
     let (m, e₂) = bounded mostEnd (p .end + k) 16 g _ e₁ in
-    bounded n (p .end + k) 3 g _ e₂ .0
+    (v, bounded n (p .end + k) 3 g _ e₂ .0)
 
 -- Bytes that are prepended come from the headroom.
 pub lower-fits : (p : Packet) (k n : ℕ) (g : Grown) → lowerAnswer p k n ≡ gives g → (valid p n ≡ true) × (k ≤ p .headroom)

@@ -1,11 +1,10 @@
--- One outcome: what an answer says determines it, and each contract leaves one answer and one buffer.
-use mathlib.Core.Path.{_≡_, refl, sym, _∙_}
+-- One answer: what an answer says determines it.
+use mathlib.Core.Path.{_≡_, refl}
 use Prim.Native.Nat.{ℕ}
 use mathlib.Core.Bool.{Bool}
-use mathlib.Core.List.{List}
 use Rattle.pkt.specs.Answers.{Answer, refused, gives}
 use Rattle.pkt.proofs.Only.{told-once}
-use Rattle.packet.specs.Answers.{numberSays, truthSays, partSays, madeSays, Grown, pushedSays, Done}
+use Rattle.packet.specs.Answers.{numberSays, truthSays, partSays, madeSays, Grown, pushedSays}
 use Rattle.packet.specs.declared.Packet.{Packet}
 use Rattle.packet.specs.declared.PktSlice.{PktSlice}
 use Rattle.packet.specs.declared.Number.{Number}
@@ -78,8 +77,3 @@ pushedOf-says (pushed.Refused n) = refl
 
 pub pushed-only : (r s : Pushed) (a : Answer Grown) → pushedSays r ≡ a → pushedSays s ≡ a → r ≡ s
 pushed-only r s a p q = told-once pushedSays pushedOf pushedOf-says r s a p q
-
--- One answer and one buffer, where what is said determines the answer.
-pub done-only : {R A : Type 0} (says : R → Answer A) → ((r s : R) (a : Answer A) → says r ≡ a → says s ≡ a → r ≡ s)
-    → (a : Answer A) (x b : List ℕ) (r s : R) (b₁ b₂ : List ℕ) → Done says a x b r b₁ → Done says a x b s b₂ → (r ≡ s) × (b₁ ≡ b₂)
-done-only says one a x b r s b₁ b₂ f g = (one r s a (f .answer) (g .answer), f .after ∙ sym (g .after))

@@ -1,12 +1,11 @@
 -- What the calls on a packet answer, and what they leave in the lent buffers.
 use Prim.Native.Nat.{ℕ, _+_, _-_, _*_}
-use mathlib.Core.Path.{_≡_}
 use mathlib.Core.Bool.{Bool, cond, _&&_}
 use mathlib.Core.List.{List}
 use lib.ListN.{length}
 use lib.Dec.{ltb}
 use Rattle.pkt.specs.Answers.{Answer, refused, gives, fitting}
-use Rattle.pkt.specs.Written.{written, unlessRefused, zeros}
+use Rattle.pkt.specs.Written.{zeros, Done, Wrote}
 use Rattle.packet.specs.Headroom.{mostEnd, valid, lenOf, packet, part, within, leads, bytesAt, wholeOf, placed}
 use Rattle.packet.specs.Dump.{dumpOf}
 use Rattle.packet.specs.declared.Packet.{Packet}
@@ -87,14 +86,9 @@ copyAnswer ok k room = cond ok (fitting k room) (refused 16)
 
 -- ---- whole promises
 
--- The one answer r, which says a, and the one buffer b′ after the call.
-pub record Done {R A : Type 0} (says : R → Answer A) (a : Answer A) (x b : List ℕ) (r : R) (b′ : List ℕ) : Type 0 where
-  pub answer : says r ≡ a
-  pub after : b′ ≡ unlessRefused a x b
-
 -- a new packet in the buffer b: the headroom's bytes are zero
 abbrev pub MadeNew : ℕ → List ℕ → Made → List ℕ → Type 0
-MadeNew h b r b′ = Done madeSays (newAnswer h (length b)) (written (zeros h) b) b r b′
+MadeNew h b r b′ = Wrote madeSays (newAnswer h (length b)) (zeros h) b r b′
 
 -- k bytes appended, which are d
 abbrev pub Appended : Packet → ℕ → List ℕ → List ℕ → Pushed → List ℕ → Type 0
@@ -106,7 +100,7 @@ Prepended p d b r b′ = Done pushedSays (lowerAnswer p (length d) (length b)) (
 
 -- the k bytes d at the start of the output o, where ok says that they are there to be copied
 abbrev pub CopiedOut : Bool → ℕ → List ℕ → List ℕ → Number → List ℕ → Type 0
-CopiedOut ok k d o r o′ = Done numberSays (copyAnswer ok k (length o)) (written d o) o r o′
+CopiedOut ok k d o r o′ = Wrote numberSays (copyAnswer ok k (length o)) d o r o′
 
 -- to_vec: the packet of the buffer b, and never the headroom
 abbrev pub WholeCopied : Packet → List ℕ → List ℕ → Number → List ℕ → Type 0

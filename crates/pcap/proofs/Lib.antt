@@ -1,3 +1,4 @@
 pub mod Answers
 pub mod Pcap
 pub mod Read
+pub mod Runs

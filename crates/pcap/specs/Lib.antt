@@ -1,3 +1,4 @@
 pub mod Pcap
 pub mod Answers
 pub mod Read
+pub mod Runs

@@ -1,9 +1,11 @@
 // Captures by the published classic pcap layout: little-endian, version 2.4, snap length 65,535, link type 101, microseconds.
+use pkt::limit;
 use pkt::refusal;
 ghost use mathlib.Core.Path.{_≡_};
 ghost use Prim.Native.Nat.{_+_, _≤_};
 ghost use lib.ListN.{length};
 ghost use Rattle.pcap.specs.Pcap.{fileHeader, recordHeader, recordBytes};
+ghost use Rattle.pkt.specs.Answers.{mostBytes};
 ghost use Rattle.pkt.specs.Written.{written};
 ghost use Rattle.pcap.specs.Answers.{capturedSays, recordAnswer, HeaderWritten, RecordWritten};
 
@@ -85,7 +87,7 @@ fn record_header(sec: u32, usec: u32, n: u32) -> [u8; 16]
 pub fn record_answer(n: usize, usec: u32, room: usize) -> Captured
     ensures { λ r. ⌜ capturedSays r ≡ recordAnswer n usec room ⌝ }
 {
-    if n > 65535 {
+    if n > limit::BYTES {
         return Captured::Refused(refusal::TOO_LONG);
     }
     if usec > 999999 {
@@ -99,7 +101,7 @@ pub fn record_answer(n: usize, usec: u32, room: usize) -> Captured
 
 // A record of packet at the start of out, which has room for it.
 fn put_record(sec: u32, usec: u32, packet: &[u8], out: &mut [u8])
-    requires { ⌜ (length (now packet) ≤ 65535) × (16 + length (now packet) ≤ length (now out)) ⌝ }
+    requires { ⌜ (length (now packet) ≤ mostBytes) × (16 + length (now packet) ≤ length (now out)) ⌝ }
     ensures { λ _. ⌜ now (out .exit) ≡ written (recordBytes sec usec (now (packet .entry))) (now (out .entry)) ⌝ }
 {
     let h = record_header(sec, usec, packet.len() as u32);

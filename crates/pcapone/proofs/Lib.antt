@@ -1,2 +1,2 @@
-pub mod Only
 pub mod Example
+pub mod Output

@@ -9,12 +9,10 @@ fn main() {
     let mut input = [0u8; 4097];
     let mut out = [0u8; 4164];
     let n = io::read_full(STDIN_FILENO, &mut input);
-    let size = capture::size(n);
+    let size = capture::capture(&input[0..n], &mut out);
     if size == 0 {
         io::write_all(STDERR_FILENO, b"pcapone: more than 4,096 bytes of input\n");
         return;
     }
-    // At most 4,096 bytes were read and the output has room for 68 more, so the call refuses nothing.
-    capture::echo_capture(&input[0..n], &mut out);
     io::write_all(STDOUT_FILENO, &out[0..size]);
 }

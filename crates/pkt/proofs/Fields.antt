@@ -7,7 +7,7 @@ use mathlib.Core.List.{List, [], _∷_, _++_, append-assoc}
 use lib.ListN.{length, take, drop, length-append}
 use lib.Seq.{take-at, drop-at}
 use lib.Arith.{mod-mul}
-use Rattle.pkt.specs.Fields.{be, value, Field, fields, Bytes}
+use Rattle.pkt.specs.Fields.{be, value, Field, fields, Bytes, widths, ReadBack}
 use Rattle.pkt.proofs.Bytes.{bytes-nil, bytes-cons, bytes-append}
 
 pub be-length : (k x : ℕ) → length (be k x) ≡ k
@@ -23,11 +23,6 @@ be-bytes (suc k) x =
 pub fields-bytes : (fs : List Field) → Bytes (fields fs)
 fields-bytes [] = bytes-nil
 fields-bytes (f ∷ fs) = bytes-append (be (f .width) (f .number)) (fields fs) (be-bytes (f .width) (f .number)) (fields-bytes fs)
-
--- how many bytes fields take
-unfoldable pub widths : List Field → ℕ
-widths [] = 0
-widths (f ∷ fs) = f .width + widths fs
 
 pub fields-length : (fs : List Field) → length (fields fs) ≡ widths fs
 unfolding widths
@@ -57,8 +52,7 @@ be-value (suc k) x =
     ∙ ap (λ (m : ℕ). x % m) (sym (pow-suc 256 k))
 
 -- One law for every field of every header: the bytes at its place stand for its number, as far as its width holds it.
-pub field-at : (xs : List Field) (f : Field) (bs : List Field) (rest : List ℕ)
-    → value 0 (take (f .width) (drop (widths xs) (fields (xs ++ f ∷ bs) ++ rest))) ≡ f .number % 256 ^ f .width
+pub field-at : ReadBack
 field-at xs f bs rest =
     rw (
       fields-append,

@@ -2,12 +2,12 @@
 use mathlib.Core.Path.{_≡_, refl, sym, ap, _∙_}
 use Prim.Native.Nat.{ℕ, zero, suc, _+_, _-_, _*_, _/_, _%_, _<_}
 use native.Mathlib.Omega.{arith}
-use mathlib.Core.List.{List, [], _∷_, _++_}
-use lib.ListN.{length}
+use mathlib.Core.List.{List, [], _++_}
+use lib.ListN.{length, take, drop}
 use Rattle.pkt.specs.Rfc1071.{checksum, Verifies}
 use Rattle.pkt.specs.Sums.{total, canon}
-use Rattle.pkt.specs.Fields.{be, Field, field, fields, Bytes}
-use Rattle.pkt.specs.Rfc791.{ipBytes, ipHeader}
+use Rattle.pkt.specs.Fields.{be, Field, fields, Bytes}
+use Rattle.pkt.specs.Rfc791.{ipFields, ipBytes, ipHeader}
 use Rattle.pkt.specs.Rfc768.{pseudoFields, pseudo, nonzero, udpFields, udpHeader, udpChecksum}
 use Rattle.pkt.specs.Rfc9293.{tcpFields, tcpHeader, tcpChecksum}
 use Rattle.pkt.specs.Rfc792.{echoFields, echoHeader, echoChecksum}
@@ -38,12 +38,12 @@ echo-length h e c = refl
 
 -- ---- what is sent verifies
 
+-- the fields before the checksum, and those behind it
 ip-front : «ip_hdr» → List Field
-ip-front h =
-    field 1 0x45 ∷ field 1 (h .tos) ∷ field 2 (h .«tot_len») ∷ field 2 (h .id) ∷ field 2 (h .«frag_off») ∷ field 1 (h .ttl) ∷ field 1 (h .protocol) ∷ []
+ip-front h = take 7 (ipFields h 0)
 
 ip-back : «ip_hdr» → List Field
-ip-back h = field 4 (h .saddr) ∷ field 4 (h .daddr) ∷ []
+ip-back h = drop 8 (ipFields h 0)
 
 -- Every IPv4 header verifies.
 pub ip-verifies : (h : «ip_hdr») → Verifies (ipHeader h)
@@ -52,23 +52,20 @@ ip-verifies h = verifies (fields (ip-front h)) (fields (ip-back h)) refl (fields
 
 module _ (s d : ℕ) (p : List ℕ) (bp : Bytes p) where
   tcp-front : «tcp_hdr» → List Field
-  tcp-front h =
-      field 4 s ∷ field 4 d ∷ field 1 0 ∷ field 1 6 ∷ field 2 (20 + length p)
-      ∷ field 2 (h .sport) ∷ field 2 (h .dport) ∷ field 4 (h .seq) ∷ field 4 (h .ack) ∷ field 1 0x50 ∷ field 1 (h .flags) ∷ field 2 65535 ∷ []
+  tcp-front h = pseudoFields s d 6 (20 + length p) ++ take 7 (tcpFields h 0)
 
-  tcp-back : List Field
-  tcp-back = field 2 0 ∷ []
+  tcp-back : «tcp_hdr» → List Field
+  tcp-back h = drop 8 (tcpFields h 0)
 
   -- A TCP segment with its checksum verifies, with the pseudo header before it.
   pub tcp-verifies : (h : «tcp_hdr») → Verifies (pseudo s d 6 (20 + length p) ++ (tcpHeader h (tcpChecksum s d h p) ++ p))
   unfolding pseudo tcpHeader tcpChecksum tcp-front tcp-back
   tcp-verifies h =
-      verifies (fields (tcp-front h)) (fields tcp-back ++ p) refl
-      (fields-bytes (tcp-front h)) (bytes-append (fields tcp-back) p (fields-bytes tcp-back) bp)
+      verifies (fields (tcp-front h)) (fields (tcp-back h) ++ p) refl
+      (fields-bytes (tcp-front h)) (bytes-append (fields (tcp-back h)) p (fields-bytes (tcp-back h)) bp)
 
   udp-front : «udp_hdr» → List Field
-  udp-front h =
-      field 4 s ∷ field 4 d ∷ field 1 0 ∷ field 1 17 ∷ field 2 (8 + length p) ∷ field 2 (h .sport) ∷ field 2 (h .dport) ∷ field 2 (h .len) ∷ []
+  udp-front h = pseudoFields s d 17 (8 + length p) ++ take 3 (udpFields h 0)
 
   -- So does a UDP datagram.
   pub udp-verifies : (h : «udp_hdr») → Verifies (pseudo s d 17 (8 + length p) ++ (udpHeader h (udpChecksum s d h p) ++ p))
@@ -77,10 +74,10 @@ module _ (s d : ℕ) (p : List ℕ) (bp : Bytes p) where
 
 module _ (h : «icmp_hdr») (e : «icmp_echo_hdr») (p : List ℕ) (bp : Bytes p) where
   echo-front : List Field
-  echo-front = field 1 (h .typ) ∷ field 1 (h .code) ∷ []
+  echo-front = take 2 (echoFields h e 0)
 
   echo-back : List Field
-  echo-back = field 2 (e .id) ∷ field 2 (e .seq) ∷ []
+  echo-back = drop 3 (echoFields h e 0)
 
   -- An echo verifies, with nothing before it.
   pub echo-verifies : Verifies (echoHeader h e (echoChecksum h e p) ++ p)

@@ -1,7 +1,8 @@
--- One answer: what an answer says determines it.
+-- One outcome: what an answer says determines it, and a promise leaves one answer and one state of all that was lent.
 use mathlib.Core.Path.{_≡_, refl, sym, ap, _∙_}
 use Prim.Native.Nat.{ℕ}
 use Rattle.pkt.specs.Answers.{Answer, refused, gives, sumSays}
+use Rattle.pkt.specs.Written.{Promise}
 use Rattle.pkt.specs.declared.ipv4.Sum.{Sum}
 use Rattle.pkt.specs.declared.ipv4.Sum.the-variants.{Is, Refused}
 
@@ -9,6 +10,15 @@ use Rattle.pkt.specs.declared.ipv4.Sum.the-variants.{Is, Refused}
 pub told-once : {A B : Type 0} (says : A → B) (back : B → A) → ((a : A) → back (says a) ≡ a)
     → (r s : A) (x : B) → says r ≡ x → says s ≡ x → r ≡ s
 told-once says back is r s x p q = sym (is r) ∙ ap back (p ∙ sym q) ∙ is s
+
+-- An equation leaves one answer.
+pub equation-only : {A : Type 0} (a r s : A) → r ≡ a → s ≡ a → r ≡ s
+equation-only a r s p q = p ∙ sym q
+
+-- A promise leaves one answer, where what is said determines it, and one state of all that was lent.
+pub promise-only : {R A B : Type 0} (says : R → A) → ((r s : R) (a : A) → says r ≡ a → says s ≡ a → r ≡ s)
+    → (a : A) (x : B) (r s : R) (o₁ o₂ : B) → Promise says a x r o₁ → Promise says a x s o₂ → (r ≡ s) × (o₁ ≡ o₂)
+promise-only says one a x r s o₁ o₂ p q = (one r s a (p .answer) (q .answer), p .after ∙ sym (q .after))
 
 sumOf : Answer ℕ → Sum
 sumOf (gives c) = Is c

@@ -34,6 +34,20 @@ abbrev pub sumSays : Sum → Answer ℕ
 sumSays (Is c) = gives c
 sumSays (Refused n) = refused n
 
+-- Number 1: "payload above 65,495 (TCP), 65,507 (UDP, ICMP), 65,515 (IPv4 payload); more than 65,535 bytes to sum or to put in one
+-- capture record"
+abbrev pub mostTcp : ℕ
+mostTcp = 65495
+
+abbrev pub mostUdp : ℕ
+mostUdp = 65507
+
+abbrev pub mostIp : ℕ
+mostIp = 65515
+
+abbrev pub mostBytes : ℕ
+mostBytes = 65535
+
 -- Number 1 is given exactly when there are more bytes than `most`.
 abbrev pub unlessLong : ℕ → ℕ → ℕ → Answer ℕ
 unlessLong most n c = cond (ltb most n) (refused 1) (gives c)
@@ -42,20 +56,18 @@ unlessLong most n c = cond (ltb most n) (refused 1) (gives c)
 abbrev pub fitting : ℕ → ℕ → Answer ℕ
 fitting size room = cond (ltb room size) (refused 3) (gives size)
 
--- "more than 65,535 bytes to sum"
 abbrev pub csumAnswer : List ℕ → Answer ℕ
-csumAnswer l = unlessLong 65535 (length l) (checksum l)
+csumAnswer l = unlessLong mostBytes (length l) (checksum l)
 
--- "payload above 65,495 (TCP), 65,507 (UDP, ICMP)"
 abbrev pub tcpAnswer : ℕ → ℕ → «tcp_hdr» → List ℕ → Answer ℕ
-tcpAnswer s d h p = unlessLong 65495 (length p) (tcpChecksum s d h p)
+tcpAnswer s d h p = unlessLong mostTcp (length p) (tcpChecksum s d h p)
 
 abbrev pub udpAnswer : ℕ → ℕ → «udp_hdr» → List ℕ → Answer ℕ
-udpAnswer s d h p = unlessLong 65507 (length p) (udpChecksum s d h p)
+udpAnswer s d h p = unlessLong mostUdp (length p) (udpChecksum s d h p)
 
 abbrev pub echoAnswer : «icmp_hdr» → «icmp_echo_hdr» → List ℕ → Answer ℕ
-echoAnswer h e p = unlessLong 65507 (length p) (echoChecksum h e p)
+echoAnswer h e p = unlessLong mostUdp (length p) (echoChecksum h e p)
 
--- a whole transport part l, of at most 65,515 bytes, behind its pseudo header
+-- a whole transport part l behind its pseudo header
 abbrev pub transportAnswer : ℕ → ℕ → ℕ → List ℕ → Answer ℕ
-transportAnswer s d p l = unlessLong 65515 (length l) (checksum (pseudo s d p (length l) ++ l))
+transportAnswer s d p l = unlessLong mostIp (length l) (checksum (pseudo s d p (length l) ++ l))

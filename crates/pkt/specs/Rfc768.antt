@@ -13,6 +13,10 @@ udpFields h c = field 2 (h .sport) ∷ field 2 (h .dport) ∷ field 2 (h .len) �
 unfoldable pub udpHeader : «udp_hdr» → ℕ → List ℕ
 udpHeader h c = fields (udpFields h c)
 
+-- where the checksum stands in the header
+abbrev pub udpSumAt : ℕ
+udpSumAt = 6
+
 -- The pseudo header: source address, destination address, zero, protocol, length. RFC 9293, 3.1 has the same for TCP.
 abbrev pub pseudoFields : ℕ → ℕ → ℕ → ℕ → List Field
 pseudoFields s d p n = field 4 s ∷ field 4 d ∷ field 1 0 ∷ field 1 p ∷ field 2 n ∷ []
@@ -26,6 +30,6 @@ nonzero zero = 65535
 nonzero (suc n) = suc n
 
 -- Checksum: of the pseudo header, the UDP header and the data, between the addresses s and d. The pseudo header's length is that of the
--- header and the data; the header has a length field of its own, which is the same in every datagram that is built.
+-- header and the data; the header has a length field of its own, which in every datagram that is built says the same length.
 unfoldable pub udpChecksum : ℕ → ℕ → «udp_hdr» → List ℕ → ℕ
 udpChecksum s d h p = nonzero (checksum (pseudo s d 17 (8 + length p) ++ (udpHeader h 0 ++ p)))

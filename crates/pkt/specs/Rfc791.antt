@@ -24,6 +24,10 @@ ipFields h c =
 unfoldable pub ipBytes : «ip_hdr» → ℕ → List ℕ
 ipBytes h c = fields (ipFields h c)
 
+-- where the checksum stands in the header: behind the ten bytes of the fields before it
+abbrev pub ipSumAt : ℕ
+ipSumAt = 10
+
 -- 3.1, Header Checksum: the checksum of the header, for which its own field is zero
 unfoldable pub ipHeader : «ip_hdr» → List ℕ
 ipHeader h = ipBytes h (checksum (ipBytes h 0))

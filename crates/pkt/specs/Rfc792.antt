@@ -13,6 +13,10 @@ echoFields h e c = field 1 (h .typ) ∷ field 1 (h .code) ∷ field 2 c ∷ fiel
 unfoldable pub echoHeader : «icmp_hdr» → «icmp_echo_hdr» → ℕ → List ℕ
 echoHeader h e c = fields (echoFields h e c)
 
+-- where the checksum stands in the header
+abbrev pub echoSumAt : ℕ
+echoSumAt = 2
+
 -- Checksum: of the ICMP message starting with the type, with no pseudo header
 unfoldable pub echoChecksum : «icmp_hdr» → «icmp_echo_hdr» → List ℕ → ℕ
 echoChecksum h e p = checksum (echoHeader h e 0 ++ p)

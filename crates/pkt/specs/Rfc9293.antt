@@ -22,8 +22,28 @@ tcpFields h c =
     ∷ field 2 0
     ∷ []
 
+-- 3.1, Control bits
+abbrev pub FIN : ℕ
+FIN = 0x01
+
+abbrev pub SYN : ℕ
+SYN = 0x02
+
+abbrev pub RST : ℕ
+RST = 0x04
+
+abbrev pub PSH : ℕ
+PSH = 0x08
+
+abbrev pub ACK : ℕ
+ACK = 0x10
+
 unfoldable pub tcpHeader : «tcp_hdr» → ℕ → List ℕ
 tcpHeader h c = fields (tcpFields h c)
+
+-- where the checksum stands in the header
+abbrev pub tcpSumAt : ℕ
+tcpSumAt = 16
 
 -- 3.1, Checksum: of the pseudo header, the TCP header and the text, between the addresses s and d. A computed 0 stays 0.
 unfoldable pub tcpChecksum : ℕ → ℕ → «tcp_hdr» → List ℕ → ℕ

@@ -1,5 +1,6 @@
 // IPv4, TCP, UDP and ICMP headers and their checksums.
 use crate::csum;
+use crate::limit;
 use crate::refusal;
 ghost use mathlib.Core.Path.{_≡_};
 ghost use Prim.Native.Nat.{_+_, _<_};
@@ -47,6 +48,7 @@ pub struct ip_hdr {
 }
 
 impl ip_hdr {
+    // TOS 0, id 0 and TTL 64, the length of a header alone, and 0 for the rest.
     pub fn default() -> Self
         ensures { λ r. ⌜ r ≡ ipDefault ⌝ }
     {
@@ -126,6 +128,7 @@ pub struct tcp_hdr {
 }
 
 impl tcp_hdr {
+    // Between two ports; numbers and flags are 0.
     pub fn new(sport: u16, dport: u16) -> Self
         ensures { λ r. ⌜ r ≡ tcpNew sport dport ⌝ }
     {
@@ -157,7 +160,7 @@ impl tcp_hdr {
             (self.ack % 256) as u8,
             0x50,
             self.flags,
-            0xff,
+            0xff, // the window
             0xff,
             (csum / 256 % 256) as u8,
             (csum % 256) as u8,
@@ -179,13 +182,14 @@ impl udp_hdr {
     pub fn to_bytes(self, csum: u16) -> [u8; 8]
         ensures { λ r. ⌜ r ≡ udpHeader self csum ⌝ }
     {
+        let udp_hdr { sport, dport, len } = self;
         [
-            (self.sport / 256 % 256) as u8,
-            (self.sport % 256) as u8,
-            (self.dport / 256 % 256) as u8,
-            (self.dport % 256) as u8,
-            (self.len / 256 % 256) as u8,
-            (self.len % 256) as u8,
+            (sport / 256 % 256) as u8,
+            (sport % 256) as u8,
+            (dport / 256 % 256) as u8,
+            (dport % 256) as u8,
+            (len / 256 % 256) as u8,
+            (len % 256) as u8,
             (csum / 256 % 256) as u8,
             (csum % 256) as u8,
         ]
@@ -263,6 +267,7 @@ pub struct icmp_echo_hdr {
 }
 
 impl icmp_echo_hdr {
+    // The id 0x1234 and a number.
     pub fn new(seq: u16) -> Self
         ensures { λ r. ⌜ r ≡ echoNew seq ⌝ }
     {
@@ -271,6 +276,7 @@ impl icmp_echo_hdr {
 }
 
 impl icmp_hdr {
+    // A type, with code 0.
     pub fn new(typ: u8) -> Self
         ensures { λ r. ⌜ r ≡ icmpNew typ ⌝ }
     {
@@ -298,7 +304,7 @@ impl icmp_hdr {
 pub fn ip_csum(buf: &[u8]) -> Sum
     ensures { λ r. ⌜ sumSays r ≡ csumAnswer (now (buf .entry)) ⌝ }
 {
-    if buf.len() > 65535 {
+    if buf.len() > limit::BYTES {
         return Sum::Refused(refusal::TOO_LONG);
     }
     Sum::Is(csum::ip_csum_fold(csum::ip_csum_partial(buf)))
@@ -329,7 +335,7 @@ pub fn transport_csum(saddr: u32, daddr: u32, proto: u8, part: &[u8]) -> Sum
     ensures { λ r. ⌜ sumSays r ≡ transportAnswer saddr daddr proto (now (part .entry)) ⌝ }
 {
     let n = part.len();
-    if n > 65515 {
+    if n > limit::IP_PAYLOAD {
         return Sum::Refused(refusal::TOO_LONG);
     }
     let pseudo = ip_pseudo_hdr {
@@ -346,7 +352,7 @@ pub fn tcp_csum(saddr: u32, daddr: u32, h: tcp_hdr, payload: &[u8]) -> Sum
     ensures { λ r. ⌜ sumSays r ≡ tcpAnswer saddr daddr h (now (payload .entry)) ⌝ }
 {
     let n = payload.len();
-    if n > 65495 {
+    if n > limit::TCP_PAYLOAD {
         return Sum::Refused(refusal::TOO_LONG);
     }
     let pseudo = ip_pseudo_hdr {
@@ -371,7 +377,7 @@ pub fn udp_csum(saddr: u32, daddr: u32, h: udp_hdr, payload: &[u8]) -> Sum
     ensures { λ r. ⌜ sumSays r ≡ udpAnswer saddr daddr h (now (payload .entry)) ⌝ }
 {
     let n = payload.len();
-    if n > 65507 {
+    if n > limit::UDP_PAYLOAD {
         return Sum::Refused(refusal::TOO_LONG);
     }
     let pseudo = ip_pseudo_hdr {
@@ -388,7 +394,7 @@ pub fn udp_csum(saddr: u32, daddr: u32, h: udp_hdr, payload: &[u8]) -> Sum
 pub fn icmp_csum(h: icmp_hdr, echo: icmp_echo_hdr, payload: &[u8]) -> Sum
     ensures { λ r. ⌜ sumSays r ≡ echoAnswer h echo (now (payload .entry)) ⌝ }
 {
-    if payload.len() > 65507 {
+    if payload.len() > limit::UDP_PAYLOAD {
         return Sum::Refused(refusal::TOO_LONG);
     }
     let header = h.to_bytes(echo, 0);

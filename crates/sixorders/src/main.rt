@@ -1,6 +1,7 @@
 // Pieces handed in in every order, and every refusal of an assembly, run: each line is a call and what it answers.
 use assembly::Key;
 use assembly::Opened;
+use assembly::Progress;
 use assembly::Rec;
 use assembly::Taken;
 use assembly::Total;
@@ -48,10 +49,13 @@ fn kept(rec: Rec, taken: Taken) -> Rec {
     }
 }
 
-fn say_held(bytes: &[u8]) {
-    if bytes.len() > 0 {
-        say(b", holds ");
-        say(bytes);
+// A complete datagram: as many of the payload buffer's first bytes as `progress` answers.
+fn say_held(progress: Progress, payload: &[u8]) {
+    if let Progress::Complete(n) = progress {
+        if n <= payload.len() {
+            say(b", holds ");
+            say(&payload[0..n]);
+        }
     }
 }
 
@@ -100,7 +104,7 @@ fn order(a: u16, b: u16, c: u16) {
             let one = hand(rec, a, &mut payload, &mut map);
             let two = hand(one, b, &mut payload, &mut map);
             let three = hand(two, c, &mut payload, &mut map);
-            say_held(assembly::held(three, &payload, &map));
+            say_held(assembly::progress(three, &payload, &map), &payload);
         }
     }
     say(b"\n");

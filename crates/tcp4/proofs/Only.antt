@@ -1,10 +1,10 @@
--- One outcome: each contract leaves one answer and one buffer.
-use mathlib.Core.Path.{_≡_, refl, sym, _∙_}
+-- One answer: what an answer says determines it.
+use mathlib.Core.Path.{_≡_, refl}
 use Prim.Native.Nat.{ℕ}
 use mathlib.Core.List.{List, [], _∷_}
 use Rattle.pkt.specs.Answers.{Answer, refused, gives}
 use Rattle.pkt.proofs.Only.{told-once}
-use Rattle.tcp4.specs.Tcp4.{Emit, Gone, Sends, sentSays}
+use Rattle.tcp4.specs.Tcp4.{Gone, sentSays}
 use Rattle.tcp4.specs.declared.TcpFlow.{TcpFlow}
 use Rattle.tcp4.specs.declared.Sent.{Sent}
 use Rattle.tcp4.specs.declared.Sent.the-variants.{One, Two, Three, Refused}
@@ -27,6 +27,5 @@ sentOf-says (Two f a b) = refl
 sentOf-says (Three f a b c) = refl
 sentOf-says (Refused n) = refl
 
-pub sends-only : (f : TcpFlow) (es : List Emit) (o o₁ o₂ : List ℕ) (r s : Sent) → Sends f es o r o₁ → Sends f es o s o₂
-    → (r ≡ s) × (o₁ ≡ o₂)
-sends-only f es o o₁ o₂ r s x y = (told-once sentSays sentOf sentOf-says r s _ (x .answer) (y .answer), x .after-it ∙ sym (y .after-it))
+pub sent-only : (r s : Sent) (a : Answer Gone) → sentSays r ≡ a → sentSays s ≡ a → r ≡ s
+sent-only r s a p q = told-once sentSays sentOf sentOf-says r s a p q

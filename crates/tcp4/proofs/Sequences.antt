@@ -1,15 +1,19 @@
--- The sequence law: after any calls a side's number is its start and what was consumed since then, modulo 2^32.
-use mathlib.Core.Path.{_≡_, refl, ap}
-use mathlib.Core.Bool.{Bool, true, false, cond}
+-- The sequence law: after any accepted calls a side's number is its start and what was consumed since then, modulo 2^32.
+use mathlib.Core.Path.{_≡_, sym, ap, _∙_}
 use mathlib.Core.List.{List, [], _∷_}
+use mathlib.Core.Bool.{cond}
 use Prim.Native.Nat.{ℕ, _+_, _%_, _<_}
 use native.Mathlib.Omega.{arith}
 use lib.ListN.{length}
 use lib.Dec.{ltb}
-use Rattle.pkt.specs.Answers.{Answer, refused, gives}
-use Rattle.tcp4.specs.Tcp4.{Emit, Gone, consumed, advance, after, afterAll, anyLong, sizeAll, endsFrom, popped, sentSays, Sends}
-use Rattle.tcp4.specs.Sequence.{Call, sends, hole, header, push, pop, called, calledAll, seqOf, Count, mine, sentBy, restart, sideOf, counted, countBy, countedAll, begun, flowBy, Counts, SetsBelow, Below, AllBelow}
+use Rattle.pkt.specs.Answers.{refused, gives}
+use Rattle.pkt.specs.Rfc9293.{RST, ACK}
+use Rattle.pkt.proofs.Deciding.{past}
+use Rattle.tcp4.specs.Tcp4.{Emit, Gone, emit, consumed, advance, afterOne, afterAll, anyLong, sizeAll, endsFrom, sendAnswer, popped, sentSays, Sends}
+use Rattle.tcp4.specs.Sequence.{Call, sends, hole, header, sets, Leads, sending, skipping, heading, pushing, popping, Run, none, next, seqOf, Count, mine, sentBy, restart, sideOf, counted, countedAll, begun, Counts, Below, SequenceLaw, NothingConsumed}
 use Rattle.tcp4.specs.declared.TcpFlow.{TcpFlow}
+use Rattle.tcp4.specs.declared.Header.{Header}
+use Rattle.tcp4.specs.declared.PushedState.{PushedState}
 use Rattle.tcp4.specs.declared.Side.{Side}
 use Rattle.tcp4.specs.declared.Side.the-variants.{Client, Server}
 use Rattle.tcp4.specs.declared.Seq.{Seq}
@@ -41,55 +45,58 @@ emitted w [] f k h = stayed (seqOf w f) (k .start) (k .since) h
 emitted w (e ∷ es) f k h =
     let n : ℕ = mine w (e .side) (consumed (e .flags) (length (e .body))) in
     let one = advanced w (e .side) (consumed (e .flags) (length (e .body))) f k h in
-    let rest = emitted w es (after f e) (record { start = k .start; since = k .since + n }) one in
+    let rest = emitted w es (afterOne f e) (record { start = k .start; since = k .since + n }) one in
     let s : k .since + n + sentBy w es ≡ k .since + (n + sentBy w es) = omega arith in
     rw s at rest
 
 -- a side counts from the number that it is set to, or goes on
-set : (w : Side) (c s : Seq) (f : TcpFlow) (k : Count) → Below (sideOf w c s) → Counts (seqOf w f) k
+set : (w : Side) (c s : Seq) (f : TcpFlow) (k : Count) → Below c → Below s → Counts (seqOf w f) k
     → Counts (seqOf w (popped f c s)) (restart (sideOf w c s) k)
-set Client (Is n) s f k b h = begins n b
-set Client Nothing s f k b h = h
-set Server c (Is n) f k b h = begins n b
-set Server c Nothing f k b h = h
+set Client (Is n) s f k b d h = begins n b
+set Client Nothing s f k b d h = h
+set Server c (Is n) f k b d h = begins n d
+set Server c Nothing f k b d h = h
+
+-- The flow that a call which sends gives is the flow after its packets.
+given : (f : TcpFlow) (es : List Emit) (room : ℕ) (g : Gone) → sendAnswer f es room ≡ gives g → afterAll f es ≡ g .flow
+given f es room g e =
+    let all : Gone = record { flow = afterAll f es; ends = endsFrom 0 es } in
+    let a = past (anyLong es) 1 (cond (ltb room (sizeAll es)) (refused 3) (gives all)) g e in
+    let b = past (ltb room (sizeAll es)) 3 (gives all) g (a .1) in
+    let same : all ≡ g = cc (b .1) in
+    ap (λ (x : Gone). x .flow) same
+
+sent : (f : TcpFlow) (es : List Emit) (o : List ℕ) (r : Sent) (o′ : List ℕ) (g : Gone) → Sends f es o r o′ → sentSays r ≡ gives g
+    → afterAll f es ≡ g .flow
+sent f es o r o′ g x e = given f es (length o) g (sym (x .answer) ∙ e)
 
 -- a call
-counts : (w : Side) (c : Call) (f : TcpFlow) (k : Count) → SetsBelow w c → Counts (seqOf w f) k → Counts (seqOf w (called c f)) (counted w c f k)
-counts w (sends es room) f k b h = go (anyLong es) (ltb room (sizeAll es))
-  where
-    all : Answer Gone
-    all = gives (record { flow = afterAll f es; ends = endsFrom 0 es })
+counts : (w : Side) (f : TcpFlow) (c : Call) (g : TcpFlow) (k : Count) → Leads f c g → Counts (seqOf w f) k → Counts (seqOf w g) (counted w c k)
+counts w _ _ _ k (sending f es o r o′ s x e) h = ap (seqOf w) (sym (sent f es o r o′ s x e)) ∙ emitted w es f k h
+counts w _ _ _ k (skipping f s n g e) h = ap (seqOf w) e ∙ advanced w s n f k h
+counts w _ _ _ k (heading f s dlen csum r e) h = ap (λ (x : Header). seqOf w (x .flow)) e ∙ advanced w s dlen f k h
+counts w _ _ _ k (pushing f c′ s r a b e) h = ap (λ (x : PushedState). seqOf w (x .flow)) e ∙ set w c′ s f k a b h
+counts w _ _ _ k (popping f c′ s g a b e) h = ap (seqOf w) e ∙ set w c′ s f k a b h
 
-    go : (long short : Bool)
-        → Counts (seqOf w (flowBy (cond long (refused 1) (cond short (refused 3) all)) f))
-        (countBy (cond long (refused 1) (cond short (refused 3) all)) (sentBy w es) k)
-    go true short = h
-    go false true = h
-    go false false = emitted w es f k h
-counts w (hole s n) f k b h = advanced w s n f k h
-counts w (header s dlen csum) f k b h = advanced w s dlen f k h
-counts w (push c s) f k b h = set w c s f k b h
-counts w (pop c s) f k b h = set w c s f k b h
+countsAll : (w : Side) (f : TcpFlow) (cs : List Call) (g : TcpFlow) (k : Count) → Run f cs g → Counts (seqOf w f) k
+    → Counts (seqOf w g) (countedAll w cs k)
+countsAll w _ _ _ k (none f) h = h
+countsAll w _ _ _ k (next f c m cs′ g l r) h = countsAll w m cs′ g (counted w c k) r (counts w f c m k l h)
 
-countsAll : (w : Side) (cs : List Call) (f : TcpFlow) (k : Count) → AllBelow w cs → Counts (seqOf w f) k
-    → Counts (seqOf w (calledAll cs f)) (countedAll w cs f k)
-countsAll w [] f k b h = h
-countsAll w (c ∷ cs) f k b h = countsAll w cs (called c f) (counted w c f k) (b .1) (counts w c f k (b .0) h)
+pub sequence-law : SequenceLaw
+sequence-law w f cs g b r = countsAll w f cs g (begun w f) r (begins (seqOf w f) b)
 
--- "After accepted calls a side's number equals its start plus its payload bytes, SYNs, FINs, holes and the `dlen` of its header-only
--- calls since then." Refused calls change nothing.
-pub sequence-law : (w : Side) (cs : List Call) (f : TcpFlow) → seqOf w f < 4294967296 → AllBelow w cs
-    → Counts (seqOf w (calledAll cs f)) (countedAll w cs f (begun w f))
-sequence-law w cs f b all = countsAll w cs f (begun w f) all (begins (seqOf w f) b)
+-- ---- nothing consumed
 
--- The flow after a call that keeps its promise is the call's.
-pub sent-flow : (f : TcpFlow) (es : List Emit) (o : List ℕ) (r : Sent) (o′ : List ℕ) → Sends f es o r o′
-    → flowBy (sentSays r) f ≡ called (sends es (length o)) f
-sent-flow f es o r o′ x = ap (λ (a : Answer Gone). flowBy a f) (x .answer)
+-- moving a side on by nothing
+kept : (f : TcpFlow) (s : Side) → seqOf s f < 4294967296 → advance s 0 f ≡ f
+kept f Client b = ap (λ (n : ℕ). record { cl = f .cl; sv = f .sv; «cl_seq» = n; «sv_seq» = f .«sv_seq» }) (sym (begins (f .«cl_seq») b))
+kept f Server b = ap (λ (n : ℕ). record { cl = f .cl; sv = f .sv; «cl_seq» = f .«cl_seq»; «sv_seq» = n }) (sym (begins (f .«sv_seq») b))
 
--- "Acknowledgments and resets consume nothing."
-pub ack-consumes : consumed 0x10 0 ≡ 0
-ack-consumes = refl
-
-pub reset-consumes : consumed 0x04 0 ≡ 0
-reset-consumes = refl
+pub nothing-consumed : NothingConsumed
+nothing-consumed =
+    record {
+      acknowledging = λ f s o r o′ g b x e. sym (sent f (emit s ACK 0 [] ∷ []) o r o′ g x e) ∙ kept f s b;
+      resetting = λ f s o r o′ g b x e. sym (sent f (emit s RST 0 [] ∷ []) o r o′ g x e) ∙ kept f s b;
+      following = λ f s b. kept f s b;
+    }

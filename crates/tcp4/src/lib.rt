@@ -5,15 +5,16 @@ use ezpkt::build::Request;
 use ezpkt::build::TcpSegment;
 use ezpkt::part;
 use pkt::ipv4;
+use pkt::limit;
 use pkt::refusal;
 ghost use mathlib.Core.Path.{_≡_};
 ghost use mathlib.Core.Bool.{true};
 ghost use mathlib.Core.List.{[], _∷_};
 ghost use Prim.Native.Nat.{_+_, _≤_};
 ghost use lib.ListN.{length, take, drop};
-ghost use Rattle.pkt.specs.Written.{written};
-ghost use Rattle.ezpkt.specs.Build.{tcpPacket};
-ghost use Rattle.tcp4.specs.Tcp4.{newFlow, consumed, ackOf, segOf, segmentOf, advance, after, other, emit, opening, closing, messageOf, Sends, setTo, oldOf, pushed, popped, headed};
+ghost use Rattle.pkt.specs.Answers.{mostTcp};
+ghost use Rattle.pkt.specs.Rfc9293.{RST, PSH, ACK};
+ghost use Rattle.tcp4.specs.Tcp4.{newTcpFlow, consumed, ackOf, segOf, segmentOf, advance, other, emit, exchange, opening, closing, messageOf, SendsOne, Sends, setTo, oldOf, pushed, popped, headed};
 ghost use Rattle.tcp4.specs.declared.Side.the-variants.{Client, Server};
 
 const SYN_ACK: u8 = ipv4::TCP_SYN + ipv4::TCP_ACK;
@@ -36,7 +37,7 @@ pub struct TcpFlow {
     pub sv_seq: u32,
 }
 
-// The flow after one, two or three packets and where each packet ends, or the number of the refusal.
+// The flow afterOne one, two or three packets and where each packet ends, or the number of the refusal.
 pub enum Sent {
     One(TcpFlow, usize),
     Two(TcpFlow, usize, usize),
@@ -51,7 +52,7 @@ pub enum Seq {
 }
 
 // The flow with other numbers, and the old number of each side that was set.
-pub struct Pushed {
+pub struct PushedState {
     pub flow: TcpFlow,
     pub cl: Seq,
     pub sv: Seq,
@@ -73,19 +74,23 @@ fn other_side(side: Side) -> Side
     }
 }
 
-// What a segment with these flags and n payload bytes consumes: SYN (0x02) and FIN (0x01) count one each.
+// What a segment with these flags and n payload bytes consumes: SYN and FIN count one each.
 fn seq_consumed(flags: u8, n: u32) -> u32
-    requires { ⌜ n ≤ 65495 ⌝ }
+    requires { ⌜ n ≤ mostTcp ⌝ }
     ensures { λ r. ⌜ r ≡ consumed flags n ⌝ }
 {
-    n + (flags / 2 % 2) as u32 + (flags % 2) as u32
+    n + (flags / ipv4::TCP_SYN % 2) as u32 + (flags / ipv4::TCP_FIN % 2) as u32
 }
 
-// The acknowledgment number: 0 where the flags have no ACK (0x10).
+// The acknowledgment number: 0 where the flags have no ACK.
 fn acked(flags: u8, number: u32) -> u32
     ensures { λ r. ⌜ r ≡ ackOf flags number ⌝ }
 {
-    if flags / 16 % 2 == 1 { number } else { 0 }
+    if flags / ipv4::TCP_ACK % 2 == 1 {
+        number
+    } else {
+        0
+    }
 }
 
 fn seg(
@@ -129,8 +134,9 @@ fn old(seq: Seq, now: u32) -> Seq
 }
 
 impl TcpFlow {
+    // A flow between two ends, with the sequence number that each starts from.
     pub fn new(cl: SocketAddrV4, sv: SocketAddrV4, cl_seq: u32, sv_seq: u32) -> Self
-        ensures { λ r. ⌜ r ≡ newFlow cl sv «cl_seq» «sv_seq» ⌝ }
+        ensures { λ r. ⌜ r ≡ newTcpFlow cl sv «cl_seq» «sv_seq» ⌝ }
     {
         Self {
             cl,
@@ -171,8 +177,8 @@ impl TcpFlow {
 
     // Writes one packet, and moves its side's number on.
     fn tx(self, side: Side, flags: u8, frag_off: u16, payload: &[u8], out: &mut [u8]) -> Self
-        requires { ⌜ (length (now payload) ≤ 65495) × (40 + length (now payload) ≤ length (now out)) ⌝ }
-        ensures { λ r. ⌜ (r ≡ after self (emit side flags «frag_off» (now (payload .entry)))) × (now (out .exit) ≡ written (tcpPacket (segmentOf self side flags «frag_off») (now (payload .entry))) (now (out .entry))) ⌝ }
+        requires { ⌜ (length (now payload) ≤ mostTcp) × (40 + length (now payload) ≤ length (now out)) ⌝ }
+        ensures { λ r. ⌜ SendsOne self (emit side flags «frag_off» (now (payload .entry))) (now (out .entry)) r (now (out .exit)) ⌝ }
     {
         build::build(
             Request::Tcp(self.segment(side, flags, frag_off)),
@@ -187,7 +193,7 @@ impl TcpFlow {
         ensures { λ r. ⌜ Sends self (emit side flags «frag_off» (now (payload .entry)) ∷ []) (now (out .entry)) r (now (out .exit)) ⌝ }
     {
         let n = payload.len();
-        if n > 65495 {
+        if n > limit::TCP_PAYLOAD {
             return Sent::Refused(refusal::TOO_LONG);
         }
         let end = 40 + n;
@@ -203,7 +209,7 @@ impl TcpFlow {
         ensures { λ r. ⌜ Sends self (messageOf side true «frag_off» (now (payload .entry))) (now (out .entry)) r (now (out .exit)) ⌝ }
     {
         let n = payload.len();
-        if n > 65495 {
+        if n > limit::TCP_PAYLOAD {
             return Sent::Refused(refusal::TOO_LONG);
         }
         let end = 40 + n;
@@ -217,7 +223,7 @@ impl TcpFlow {
 
     // Three packets with no payload, from one side, the other and the first again, the last an acknowledgment.
     fn three(self, side: Side, first: u8, second: u8, out: &mut [u8]) -> Sent
-        ensures { λ r. ⌜ Sends self (emit side first 0 [] ∷ emit (other side) second 0 [] ∷ emit side 0x10 0 [] ∷ []) (now (out .entry)) r (now (out .exit)) ⌝ }
+        ensures { λ r. ⌜ Sends self (exchange side first second) (now (out .entry)) r (now (out .exit)) ⌝ }
     {
         if out.len() < 120 {
             return Sent::Refused(refusal::NO_ROOM);
@@ -255,16 +261,18 @@ impl TcpFlow {
         }
     }
 
-    pub fn push_state(self, cl_seq: Seq, sv_seq: Seq) -> Pushed
+    // The flow with the numbers that are given, and the old number of each side that was set.
+    pub fn push_state(self, cl_seq: Seq, sv_seq: Seq) -> PushedState
         ensures { λ r. ⌜ r ≡ pushed self «cl_seq» «sv_seq» ⌝ }
     {
-        Pushed {
+        PushedState {
             flow: self.pop_state(cl_seq, sv_seq),
             cl: old(cl_seq, self.cl_seq),
             sv: old(sv_seq, self.sv_seq),
         }
     }
 
+    // The flow with the numbers that are given; a side that is given nothing keeps its own.
     pub fn pop_state(self, cl_seq: Seq, sv_seq: Seq) -> Self
         ensures { λ r. ⌜ r ≡ popped self «cl_seq» «sv_seq» ⌝ }
     {
@@ -274,90 +282,105 @@ impl TcpFlow {
         next
     }
 
+    // The client's number moved on by bytes that are not sent.
     pub fn client_hole(self, bytes: u32) -> Self
         ensures { λ r. ⌜ r ≡ advance Client bytes self ⌝ }
     {
         self.update(Side::Client, bytes)
     }
 
+    // The server's number moved on by bytes that are not sent.
     pub fn server_hole(self, bytes: u32) -> Self
         ensures { λ r. ⌜ r ≡ advance Server bytes self ⌝ }
     {
         self.update(Side::Server, bytes)
     }
 
+    // One segment with bytes from the client, with PSH and ACK.
     pub fn client_data_segment(self, bytes: &[u8], out: &mut [u8]) -> Sent
-        ensures { λ r. ⌜ Sends self (emit Client 0x18 0 (now (bytes .entry)) ∷ []) (now (out .entry)) r (now (out .exit)) ⌝ }
+        ensures { λ r. ⌜ Sends self (emit Client (PSH + ACK) 0 (now (bytes .entry)) ∷ []) (now (out .entry)) r (now (out .exit)) ⌝ }
     {
         self.one(Side::Client, PSH_ACK, 0, bytes, out)
     }
 
+    // One segment with bytes from the server, with PSH and ACK.
     pub fn server_data_segment(self, bytes: &[u8], out: &mut [u8]) -> Sent
-        ensures { λ r. ⌜ Sends self (emit Server 0x18 0 (now (bytes .entry)) ∷ []) (now (out .entry)) r (now (out .exit)) ⌝ }
+        ensures { λ r. ⌜ Sends self (emit Server (PSH + ACK) 0 (now (bytes .entry)) ∷ []) (now (out .entry)) r (now (out .exit)) ⌝ }
     {
         self.one(Side::Server, PSH_ACK, 0, bytes, out)
     }
 
+    // The client's acknowledgment. Its number stays.
     pub fn client_ack(self, out: &mut [u8]) -> Sent
-        ensures { λ r. ⌜ Sends self (emit Client 0x10 0 [] ∷ []) (now (out .entry)) r (now (out .exit)) ⌝ }
+        ensures { λ r. ⌜ Sends self (emit Client ACK 0 [] ∷ []) (now (out .entry)) r (now (out .exit)) ⌝ }
     {
         self.one(Side::Client, ipv4::TCP_ACK, 0, b"", out)
     }
 
+    // The server's acknowledgment. Its number stays.
     pub fn server_ack(self, out: &mut [u8]) -> Sent
-        ensures { λ r. ⌜ Sends self (emit Server 0x10 0 [] ∷ []) (now (out .entry)) r (now (out .exit)) ⌝ }
+        ensures { λ r. ⌜ Sends self (emit Server ACK 0 [] ∷ []) (now (out .entry)) r (now (out .exit)) ⌝ }
     {
         self.one(Side::Server, ipv4::TCP_ACK, 0, b"", out)
     }
 
+    // The TCP header of a segment with dlen bytes from the client and this checksum, and the client's number moved on by dlen.
     pub fn client_hdr(self, dlen: u32, csum: u16) -> Header
         ensures { λ r. ⌜ r ≡ headed self Client dlen csum ⌝ }
     {
         self.hdr(Side::Client, dlen, csum)
     }
 
+    // The TCP header of a segment with dlen bytes from the server and this checksum, and the server's number moved on by dlen.
     pub fn server_hdr(self, dlen: u32, csum: u16) -> Header
         ensures { λ r. ⌜ r ≡ headed self Server dlen csum ⌝ }
     {
         self.hdr(Side::Server, dlen, csum)
     }
 
+    // SYN from the client, SYN and ACK from the server, ACK from the client.
     pub fn open(self, out: &mut [u8]) -> Sent
         ensures { λ r. ⌜ Sends self opening (now (out .entry)) r (now (out .exit)) ⌝ }
     {
         self.three(Side::Client, ipv4::TCP_SYN, SYN_ACK, out)
     }
 
+    // FIN and ACK from the client, FIN and ACK from the server, ACK from the client.
     pub fn client_close(self, out: &mut [u8]) -> Sent
         ensures { λ r. ⌜ Sends self (closing Client) (now (out .entry)) r (now (out .exit)) ⌝ }
     {
         self.three(Side::Client, FIN_ACK, FIN_ACK, out)
     }
 
+    // FIN and ACK from the server, FIN and ACK from the client, ACK from the server.
     pub fn server_close(self, out: &mut [u8]) -> Sent
         ensures { λ r. ⌜ Sends self (closing Server) (now (out .entry)) r (now (out .exit)) ⌝ }
     {
         self.three(Side::Server, FIN_ACK, FIN_ACK, out)
     }
 
+    // The client's reset: RST alone, acknowledgment number 0. Its number stays.
     pub fn client_reset(self, out: &mut [u8]) -> Sent
-        ensures { λ r. ⌜ Sends self (emit Client 0x04 0 [] ∷ []) (now (out .entry)) r (now (out .exit)) ⌝ }
+        ensures { λ r. ⌜ Sends self (emit Client RST 0 [] ∷ []) (now (out .entry)) r (now (out .exit)) ⌝ }
     {
         self.one(Side::Client, ipv4::TCP_RST, 0, b"", out)
     }
 
+    // The server's reset: RST alone, acknowledgment number 0. Its number stays.
     pub fn server_reset(self, out: &mut [u8]) -> Sent
-        ensures { λ r. ⌜ Sends self (emit Server 0x04 0 [] ∷ []) (now (out .entry)) r (now (out .exit)) ⌝ }
+        ensures { λ r. ⌜ Sends self (emit Server RST 0 [] ∷ []) (now (out .entry)) r (now (out .exit)) ⌝ }
     {
         self.one(Side::Server, ipv4::TCP_RST, 0, b"", out)
     }
 
+    // A message from the client, with its whole flags and offset field, and the server's acknowledgment if it is asked for.
     pub fn client_message(self, bytes: &[u8], send_ack: bool, frag_off: u16, out: &mut [u8]) -> Sent
         ensures { λ r. ⌜ Sends self (messageOf Client «send_ack» «frag_off» (now (bytes .entry))) (now (out .entry)) r (now (out .exit)) ⌝ }
     {
         self.message(Side::Client, bytes, send_ack, frag_off, out)
     }
 
+    // A message from the server, with its whole flags and offset field, and the client's acknowledgment if it is asked for.
     pub fn server_message(self, bytes: &[u8], send_ack: bool, frag_off: u16, out: &mut [u8]) -> Sent
         ensures { λ r. ⌜ Sends self (messageOf Server «send_ack» «frag_off» (now (bytes .entry))) (now (out .entry)) r (now (out .exit)) ⌝ }
     {

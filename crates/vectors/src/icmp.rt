@@ -2,8 +2,8 @@
 use crate::fields;
 use crate::state;
 use crate::state::Now;
+use ezpkt::icmp4::EchoSent;
 use ezpkt::icmp4::IcmpFlow;
-use ezpkt::icmp4::Sent;
 use ezpkt::part::back;
 
 // Whether e is the two numbers of the flow, which has the ends that it had.
@@ -32,7 +32,7 @@ pub(crate) fn opened(now: Now, a: &[u8]) -> Now {
     next
 }
 
-fn echoed(kind: u8, flow: IcmpFlow, bytes: &[u8], out: &mut [u8]) -> Sent {
+fn echoed(kind: u8, flow: IcmpFlow, bytes: &[u8], out: &mut [u8]) -> EchoSent {
     if kind % 2 == 1 {
         return flow.echo(bytes, out);
     }
@@ -44,10 +44,10 @@ pub(crate) fn sent(now: Now, kind: u8, bytes: &[u8], out: &mut [u8]) -> Now {
     let mut next = now;
     let flow = now.icmp;
     match echoed(kind, flow, bytes, out) {
-        Sent::Packet(after, n) => {
+        EchoSent::Packet(after, n) => {
             next.icmp = after;
             state::wrote(next, n)
         }
-        Sent::Refused(_) => next,
+        EchoSent::Refused(_) => next,
     }
 }

@@ -7,7 +7,7 @@ use crate::udp;
 use ezpkt::part::back;
 use ezpkt::part::front;
 use tcp4::Header;
-use tcp4::Pushed;
+use tcp4::PushedState;
 use tcp4::Sent;
 use tcp4::Seq;
 use tcp4::TcpFlow;
@@ -92,7 +92,7 @@ fn set(now: Now, kind: u8, a: &[u8]) -> Now {
 }
 
 // The flow after kind 41, and whether the old numbers are those that e tells.
-fn pushed(now: Now, got: Pushed, e: &[u8], right: bool) -> Now {
+fn pushed(now: Now, got: PushedState, e: &[u8], right: bool) -> Now {
     let flow = got.flow;
     let cl = got.cl;
     let sv = got.sv;

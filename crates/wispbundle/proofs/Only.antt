@@ -3,13 +3,10 @@ use mathlib.Core.Path.{_≡_, sym, _∙_}
 use mathlib.Core.List.{List}
 use Prim.Native.Nat.{ℕ}
 use Rattle.assembly.specs.declared.Key.{Key}
-use Rattle.wispbundle.specs.Calls.{Done, AssemblyOpens, AssemblyTakes}
+use Rattle.wispbundle.specs.Calls.{AssemblyOpens, AssemblyTakes}
 use Rattle.wispbundle.specs.declared.assembling.«wb_assembly».{«wb_assembly»}
 use Rattle.wispbundle.specs.declared.assembling.«wb_opened».{«wb_opened»}
 use Rattle.wispbundle.specs.declared.assembling.«wb_taken».{«wb_taken»}
-
-pub done-only : {R : Type 0} {a r s : R} {x o₁ o₂ : List ℕ} → Done R a r x o₁ → Done R a s x o₂ → (r ≡ s) × (o₁ ≡ o₂)
-done-only x y = (x .answer ∙ sym (y .answer), x .after ∙ sym (y .after))
 
 pub opens-only : (k : Key) (d m : List ℕ) (r s : «wb_opened») (d₁ d₂ m₁ m₂ : List ℕ) → AssemblyOpens k d m r d₁ m₁ → AssemblyOpens k d m s d₂ m₂
     → (r ≡ s) × (d₁ ≡ d₂) × (m₁ ≡ m₂)

@@ -8,7 +8,7 @@ use Rattle.ezpkt.specs.Icmp4 as icmp
 use Rattle.tcp4.specs.Tcp4 as tcp
 use Rattle.ezpkt.specs.declared.icmp4.IcmpFlow.{IcmpFlow}
 use Rattle.tcp4.specs.declared.TcpFlow.{TcpFlow}
-use Rattle.tcp4.specs.declared.Pushed.{Pushed}
+use Rattle.tcp4.specs.declared.PushedState.{PushedState}
 use Rattle.tcp4.specs.declared.Seq.{Seq}
 use Rattle.tcp4.specs.declared.Seq.the-variants.{Is, Nothing}
 use Rattle.ezpkt.specs.declared.udp4.Choices.{Choices}
@@ -16,7 +16,7 @@ use Rattle.ezpkt.specs.declared.udp4.SrcIp.{SrcIp}
 use Rattle.ezpkt.specs.declared.udp4.SrcIp.the-variants.{Own, Other}
 use Rattle.inspect.specs.Answers.{Verdict, good, noChecksum}
 use Rattle.assembly.specs.Assembly.{Outcome, isWaiting, isComplete, isSpoilt}
-use Rattle.assembly.specs.Answers.{Reply}
+use Rattle.assembly.specs.Answers.{Reply, Standing}
 use Rattle.assembly.specs.declared.Rec.{Rec}
 use Rattle.assembly.specs.declared.Total.{Total}
 use Rattle.assembly.specs.declared.Total.the-variants.{Known, Unknown}
@@ -31,6 +31,7 @@ use Rattle.wispbundle.specs.declared.checking.«wb_checked».{«wb_check
 use Rattle.wispbundle.specs.declared.assembling.«wb_assembly».{«wb_assembly»}
 use Rattle.wispbundle.specs.declared.assembling.«wb_opened».{«wb_opened»}
 use Rattle.wispbundle.specs.declared.assembling.«wb_taken».{«wb_taken»}
+use Rattle.wispbundle.specs.declared.assembling.«wb_progress».{«wb_progress»}
 
 -- a checksum
 abbrev pub sumFor : Answer ℕ → «wb_sum»
@@ -60,11 +61,11 @@ abbrev pub seqFor : Seq → «wb_seq»
 seqFor (Is n) = record { «is_set» = true; number = n }
 seqFor Nothing = record { «is_set» = false; number = 0 }
 
-abbrev pub pushedFor : Pushed → «wb_pushed»
+abbrev pub pushedFor : PushedState → «wb_pushed»
 pushedFor p = record { flow = p .flow; cl = seqFor (p .cl); sv = seqFor (p .sv) }
 
 -- the flow after an echo, and the echo's length
-abbrev pub icmpFor : IcmpFlow → Answer icmp.Gone → «wb_icmp_sent»
+abbrev pub icmpFor : IcmpFlow → Answer icmp.EchoGone → «wb_icmp_sent»
 icmpFor f (gives g) = record { status = 0; flow = g .flow; length = g .size }
 icmpFor f (refused n) = record { status = n; flow = f; length = 0 }
 
@@ -124,3 +125,11 @@ acceptedFor o r = record { status = 0; outcome = o; assembly = assemblyFor r }
 abbrev pub takenFor : «wb_assembly» → Answer Reply → «wb_taken»
 takenFor a (gives t) = acceptedFor (outcomeFor (t .answer)) (t .rec)
 takenFor a (refused n) = record { status = n; outcome = 0; assembly = a }
+
+-- how an assembly stands
+abbrev pub stoodFor : ℕ → ℕ → «wb_progress»
+stoodFor o n = record { status = 0; outcome = o; length = n }
+
+abbrev pub progressFor : Answer Standing → «wb_progress»
+progressFor (gives s) = stoodFor (outcomeFor (s .answer)) (s .bytes)
+progressFor (refused n) = record { status = n; outcome = 0; length = 0 }

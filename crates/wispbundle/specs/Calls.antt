@@ -4,7 +4,7 @@ use mathlib.Core.Path.{_≡_}
 use mathlib.Core.List.{List}
 use lib.ListN.{length}
 use Rattle.pkt.specs.Answers.{Answer, mapped}
-use Rattle.pkt.specs.Written.{leaves}
+use Rattle.pkt.specs.Written.{leaves, Promise}
 use Rattle.ezpkt.specs.Build.{answerOf, packetOf}
 use Rattle.tcp4.specs.Tcp4.{Emit, sendAnswer, sentBytes}
 use Rattle.ezpkt.specs.Icmp4.{withFlow}
@@ -28,13 +28,12 @@ use Rattle.wispbundle.specs.declared.assembling.«wb_opened».{«wb_open
 use Rattle.wispbundle.specs.declared.assembling.«wb_taken».{«wb_taken»}
 
 -- The one answer r, which is a, and the one buffer o′ after the call, which is x.
-pub record Done (R : Type 0) (a r : R) (x o′ : List ℕ) : Type 0 where
-  pub answer : r ≡ a
-  pub after : o′ ≡ x
+abbrev pub Given : {R : Type 0} → R → List ℕ → R → List ℕ → Type 0
+Given {R} a x r o′ = Promise (λ (c : R). c) a x r o′
 
 -- bytes b into the buffer o, where the answer is a
 abbrev pub Writes : Answer ℕ → List ℕ → List ℕ → «wb_length» → List ℕ → Type 0
-Writes a b o r o′ = Done «wb_length» (lengthFor a) r (leaves a b o) o′
+Writes a b o r o′ = Given (lengthFor a) (leaves a b o) r o′
 
 -- the packet that a request and its payload p are, into the buffer o
 abbrev pub Builds : Request → List ℕ → List ℕ → «wb_length» → List ℕ → Type 0
@@ -47,12 +46,12 @@ Dumps p b o r o′ = Writes (copyAnswer (valid p (length b)) (length (dumpOf p b
 -- packets of the flow f, end to end into the buffer o
 abbrev pub TcpSends : TcpFlow → List Emit → List ℕ → «wb_tcp_sent» → List ℕ → Type 0
 TcpSends f es o r o′ =
-    Done «wb_tcp_sent» (tcpFor f (sendAnswer f es (length o))) r (leaves (sendAnswer f es (length o)) (sentBytes f es) o) o′
+    Given (tcpFor f (sendAnswer f es (length o))) (leaves (sendAnswer f es (length o)) (sentBytes f es) o) r o′
 
 -- the packet q of the flow f, which is g after it, with the payload p, into the buffer o
 abbrev pub IcmpSends : IcmpFlow → Request → IcmpFlow → List ℕ → List ℕ → «wb_icmp_sent» → List ℕ → Type 0
 IcmpSends f q g p o r o′ =
-    Done «wb_icmp_sent» (icmpFor f (withFlow g (answerOf q (length p) (length o)))) r (leaves (answerOf q (length p) (length o)) (packetOf q p) o) o′
+    Given (icmpFor f (withFlow g (answerOf q (length p) (length o)))) (leaves (answerOf q (length p) (length o)) (packetOf q p) o) r o′
 
 -- d and m are the buffers before, d′ and m′ after
 pub record AssemblyOpens (k : Key) (d m : List ℕ) (r : «wb_opened») (d′ m′ : List ℕ) : Type 0 where

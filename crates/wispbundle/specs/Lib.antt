@@ -1,3 +1,5 @@
 pub mod Answers
 pub mod Calls
 pub mod Status
+pub mod Version
+pub mod Handing

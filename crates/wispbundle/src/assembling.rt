@@ -1,17 +1,20 @@
 // One datagram put together from its pieces.
 use assembly::Key;
 use assembly::Opened;
+use assembly::Progress;
 use assembly::Rec;
 use assembly::Taken;
 use assembly::Total;
 ghost use mathlib.Core.Path.{_≡_};
-ghost use Rattle.assembly.specs.Answers.{openedSays, takenSays};
-ghost use Rattle.wispbundle.specs.Answers.{totalFor, recOf, knownFor, boundFor, assemblyFor, noAssembly, openedFor, acceptedFor, takenFor};
+ghost use Rattle.assembly.specs.View.{view};
+ghost use Rattle.assembly.specs.Answers.{openedSays, takenSays, progressSays};
+ghost use Rattle.assembly.specs.Calls.{capacity, mapBytes, progressAnswer};
+ghost use Rattle.wispbundle.specs.Answers.{totalFor, recOf, knownFor, boundFor, assemblyFor, noAssembly, openedFor, acceptedFor, takenFor, stoodFor, progressFor};
 ghost use Rattle.wispbundle.specs.Calls.{AssemblyOpens, AssemblyTakes};
 
-// A piece was taken, and bytes are still missing.
+// Bytes are still missing.
 pub const WAITING: u8 = 1;
-// A piece was taken, and all bytes are there.
+// All bytes are there.
 pub const COMPLETE: u8 = 2;
 // Two pieces contradict each other.
 pub const SPOILT: u8 = 3;
@@ -38,6 +41,14 @@ pub struct wb_taken {
     pub status: u8,
     pub outcome: u8,
     pub assembly: wb_assembly,
+}
+
+// The outcome is as in wb_taken. The length is that of a complete datagram, and else 0.
+#[repr(C)]
+pub struct wb_progress {
+    pub status: u8,
+    pub outcome: u8,
+    pub length: usize,
 }
 
 fn total_of(known: bool, total: usize) -> Total
@@ -150,6 +161,31 @@ fn taken(before: wb_assembly, answer: Taken) -> wb_taken
     }
 }
 
+fn stood(outcome: u8, length: usize) -> wb_progress
+    ensures { λ r. ⌜ r ≡ stoodFor outcome length ⌝ }
+{
+    wb_progress {
+        status: crate::ACCEPTED,
+        outcome,
+        length,
+    }
+}
+
+fn progressed(answer: Progress) -> wb_progress
+    ensures { λ r. ⌜ r ≡ progressFor (progressSays answer) ⌝ }
+{
+    match answer {
+        Progress::Waiting => stood(WAITING, 0),
+        Progress::Complete(length) => stood(COMPLETE, length),
+        Progress::Spoilt => stood(SPOILT, 0),
+        Progress::Refused(status) => wb_progress {
+            status,
+            outcome: 0,
+            length: 0,
+        },
+    }
+}
+
 #[no_mangle]
 pub extern "C" fn wb_assembly_open(key: Key, payload: &mut [u8], map: &mut [u8]) -> wb_opened
     ensures { λ r. ⌜ AssemblyOpens key (now (payload .entry)) (now (map .entry)) r (now (payload .exit)) (now (map .exit)) ⌝ }
@@ -167,4 +203,15 @@ pub extern "C" fn wb_assembly_take(
     ensures { λ r. ⌜ AssemblyTakes before (now (payload .entry)) (now (map .entry)) (now (packet .entry)) r (now (payload .exit)) (now (map .exit)) ⌝ }
 {
     taken(before, assembly::take(rec_of(before), packet, payload, map))
+}
+
+#[no_mangle]
+pub extern "C" fn wb_assembly_progress(
+    before: wb_assembly,
+    payload: &[u8],
+    map: &[u8],
+) -> wb_progress
+    ensures { λ r. ⌜ r ≡ progressFor (progressAnswer capacity mapBytes (view (recOf before) (now (payload .entry)) (now (map .entry)))) ⌝ }
+{
+    progressed(assembly::progress(rec_of(before), payload, map))
 }

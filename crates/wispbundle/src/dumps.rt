@@ -3,7 +3,10 @@ use crate::lengths::wb_length;
 use packet::Number;
 use packet::Packet;
 ghost use mathlib.Core.Path.{_≡_};
-ghost use Rattle.packet.specs.Answers.{numberSays};
+ghost use lib.ListN.{length};
+ghost use Rattle.pkt.specs.Answers.{gives};
+ghost use Rattle.packet.specs.Answers.{numberSays, ifValid};
+ghost use Rattle.packet.specs.Dump.{dumpOf};
 ghost use Rattle.wispbundle.specs.Answers.{lengthFor};
 ghost use Rattle.wispbundle.specs.Calls.{Dumps};
 
@@ -17,6 +20,13 @@ fn dumped(answer: Number) -> wb_length
         },
         Number::Refused(status) => wb_length { status, length: 0 },
     }
+}
+
+#[no_mangle]
+pub extern "C" fn wb_hex_dump_len(packet: Packet, buf: &[u8]) -> wb_length
+    ensures { λ r. ⌜ r ≡ lengthFor (ifValid packet (length (now (buf .entry))) (gives (length (dumpOf packet (now (buf .entry)))))) ⌝ }
+{
+    dumped(packet.hex_dump_len(buf))
 }
 
 #[no_mangle]

@@ -1,8 +1,8 @@
 // Echoes and replies of an ICMP flow. The answer hands the flow back, as a TCP call's does.
+use ezpkt::icmp4::EchoSent;
 use ezpkt::icmp4::IcmpFlow;
-use ezpkt::icmp4::Sent;
 ghost use mathlib.Core.Path.{_≡_};
-ghost use Rattle.ezpkt.specs.Icmp4.{newFlow, sentSays, pingOf, pongOf, pinged, ponged};
+ghost use Rattle.ezpkt.specs.Icmp4.{newIcmpFlow, echoSentSays, pingOf, pongOf, pinged, ponged};
 ghost use Rattle.wispbundle.specs.Answers.{icmpFor};
 ghost use Rattle.wispbundle.specs.Calls.{IcmpSends};
 
@@ -14,16 +14,16 @@ pub struct wb_icmp_sent {
     pub length: usize,
 }
 
-fn sent(before: IcmpFlow, answer: Sent) -> wb_icmp_sent
-    ensures { λ r. ⌜ r ≡ icmpFor before (sentSays answer) ⌝ }
+fn sent(before: IcmpFlow, answer: EchoSent) -> wb_icmp_sent
+    ensures { λ r. ⌜ r ≡ icmpFor before (echoSentSays answer) ⌝ }
 {
     match answer {
-        Sent::Packet(flow, length) => wb_icmp_sent {
+        EchoSent::Packet(flow, length) => wb_icmp_sent {
             status: crate::ACCEPTED,
             flow,
             length,
         },
-        Sent::Refused(status) => wb_icmp_sent {
+        EchoSent::Refused(status) => wb_icmp_sent {
             status,
             flow: before,
             length: 0,
@@ -33,7 +33,7 @@ fn sent(before: IcmpFlow, answer: Sent) -> wb_icmp_sent
 
 #[no_mangle]
 pub extern "C" fn wb_icmp_new(cl: u32, sv: u32) -> IcmpFlow
-    ensures { λ r. ⌜ r ≡ newFlow cl sv ⌝ }
+    ensures { λ r. ⌜ r ≡ newIcmpFlow cl sv ⌝ }
 {
     IcmpFlow::new(cl, sv)
 }

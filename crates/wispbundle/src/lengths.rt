@@ -1,10 +1,10 @@
-// The answer of a call that writes bytes.
+// The answer of a call that writes bytes, or that tells how many there would be.
 use ezpkt::build::Built;
 ghost use mathlib.Core.Path.{_≡_};
 ghost use Rattle.ezpkt.specs.Answers.{builtSays};
 ghost use Rattle.wispbundle.specs.Answers.{lengthFor};
 
-// How many bytes were written.
+// How many bytes were written, or would be.
 #[repr(C)]
 pub struct wb_length {
     pub status: u8,

@@ -11,6 +11,7 @@ pub mod lengths;
 pub mod sums;
 pub mod tcp;
 pub mod udp;
+pub mod version;
 
 // The status of a call that was carried out.
 pub const ACCEPTED: u8 = 0;

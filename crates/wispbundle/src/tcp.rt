@@ -1,13 +1,15 @@
 // Calls of a TCP flow. The answer hands the flow back: the next one, or on a refusal the one that came in.
 use ezpkt::SocketAddrV4;
 use tcp4::Header;
-use tcp4::Pushed;
+use tcp4::PushedState;
 use tcp4::Sent;
 use tcp4::Seq;
 use tcp4::TcpFlow;
 ghost use mathlib.Core.Path.{_≡_};
 ghost use mathlib.Core.List.{[], _∷_};
-ghost use Rattle.tcp4.specs.Tcp4.{newFlow, sentSays, advance, emit, opening, closing, messageOf, popped, pushed, headed};
+ghost use Prim.Native.Nat.{_+_};
+ghost use Rattle.pkt.specs.Rfc9293.{RST, PSH, ACK};
+ghost use Rattle.tcp4.specs.Tcp4.{newTcpFlow, sentSays, advance, emit, opening, closing, messageOf, popped, pushed, headed};
 ghost use Rattle.tcp4.specs.declared.Side.the-variants.{Client, Server};
 ghost use Rattle.wispbundle.specs.Answers.{seqFrom, seqFor, pushedFor, tcpEnds, tcpFor};
 ghost use Rattle.wispbundle.specs.Calls.{TcpSends};
@@ -85,7 +87,7 @@ fn old(answer: Seq) -> wb_seq
     }
 }
 
-fn both(answer: Pushed) -> wb_pushed
+fn both(answer: PushedState) -> wb_pushed
     ensures { λ r. ⌜ r ≡ pushedFor answer ⌝ }
 {
     let flow = answer.flow;
@@ -105,7 +107,7 @@ pub extern "C" fn wb_tcp_new(
     cl_seq: u32,
     sv_seq: u32,
 ) -> TcpFlow
-    ensures { λ r. ⌜ r ≡ newFlow cl sv «cl_seq» «sv_seq» ⌝ }
+    ensures { λ r. ⌜ r ≡ newTcpFlow cl sv «cl_seq» «sv_seq» ⌝ }
 {
     TcpFlow::new(cl, sv, cl_seq, sv_seq)
 }
@@ -133,28 +135,28 @@ pub extern "C" fn wb_tcp_server_close(flow: TcpFlow, out: &mut [u8]) -> wb_tcp_s
 
 #[no_mangle]
 pub extern "C" fn wb_tcp_client_reset(flow: TcpFlow, out: &mut [u8]) -> wb_tcp_sent
-    ensures { λ r. ⌜ TcpSends flow (emit Client 0x04 0 [] ∷ []) (now (out .entry)) r (now (out .exit)) ⌝ }
+    ensures { λ r. ⌜ TcpSends flow (emit Client RST 0 [] ∷ []) (now (out .entry)) r (now (out .exit)) ⌝ }
 {
     sent(flow, flow.client_reset(out))
 }
 
 #[no_mangle]
 pub extern "C" fn wb_tcp_server_reset(flow: TcpFlow, out: &mut [u8]) -> wb_tcp_sent
-    ensures { λ r. ⌜ TcpSends flow (emit Server 0x04 0 [] ∷ []) (now (out .entry)) r (now (out .exit)) ⌝ }
+    ensures { λ r. ⌜ TcpSends flow (emit Server RST 0 [] ∷ []) (now (out .entry)) r (now (out .exit)) ⌝ }
 {
     sent(flow, flow.server_reset(out))
 }
 
 #[no_mangle]
 pub extern "C" fn wb_tcp_client_ack(flow: TcpFlow, out: &mut [u8]) -> wb_tcp_sent
-    ensures { λ r. ⌜ TcpSends flow (emit Client 0x10 0 [] ∷ []) (now (out .entry)) r (now (out .exit)) ⌝ }
+    ensures { λ r. ⌜ TcpSends flow (emit Client ACK 0 [] ∷ []) (now (out .entry)) r (now (out .exit)) ⌝ }
 {
     sent(flow, flow.client_ack(out))
 }
 
 #[no_mangle]
 pub extern "C" fn wb_tcp_server_ack(flow: TcpFlow, out: &mut [u8]) -> wb_tcp_sent
-    ensures { λ r. ⌜ TcpSends flow (emit Server 0x10 0 [] ∷ []) (now (out .entry)) r (now (out .exit)) ⌝ }
+    ensures { λ r. ⌜ TcpSends flow (emit Server ACK 0 [] ∷ []) (now (out .entry)) r (now (out .exit)) ⌝ }
 {
     sent(flow, flow.server_ack(out))
 }
@@ -165,7 +167,7 @@ pub extern "C" fn wb_tcp_client_data_segment(
     bytes: &[u8],
     out: &mut [u8],
 ) -> wb_tcp_sent
-    ensures { λ r. ⌜ TcpSends flow (emit Client 0x18 0 (now (bytes .entry)) ∷ []) (now (out .entry)) r (now (out .exit)) ⌝ }
+    ensures { λ r. ⌜ TcpSends flow (emit Client (PSH + ACK) 0 (now (bytes .entry)) ∷ []) (now (out .entry)) r (now (out .exit)) ⌝ }
 {
     sent(flow, flow.client_data_segment(bytes, out))
 }
@@ -176,7 +178,7 @@ pub extern "C" fn wb_tcp_server_data_segment(
     bytes: &[u8],
     out: &mut [u8],
 ) -> wb_tcp_sent
-    ensures { λ r. ⌜ TcpSends flow (emit Server 0x18 0 (now (bytes .entry)) ∷ []) (now (out .entry)) r (now (out .exit)) ⌝ }
+    ensures { λ r. ⌜ TcpSends flow (emit Server (PSH + ACK) 0 (now (bytes .entry)) ∷ []) (now (out .entry)) r (now (out .exit)) ⌝ }
 {
     sent(flow, flow.server_data_segment(bytes, out))
 }

@@ -6,7 +6,7 @@ use ezpkt::udp4::Choices;
 use ezpkt::udp4::SrcIp;
 use ezpkt::udp4::UdpFlow;
 ghost use mathlib.Core.Path.{_≡_};
-ghost use Rattle.ezpkt.specs.Udp4.{newFlow, dgramOf};
+ghost use Rattle.ezpkt.specs.Udp4.{newUdpFlow, dgramOf};
 ghost use Rattle.ezpkt.specs.declared.build.Request.the-variants.{Udp};
 ghost use Rattle.wispbundle.specs.Answers.{sourceFor, choicesOf};
 ghost use Rattle.wispbundle.specs.Calls.{Builds};
@@ -38,7 +38,7 @@ fn choices(given: wb_choices) -> Choices
 
 #[no_mangle]
 pub extern "C" fn wb_udp_new(cl: SocketAddrV4, sv: SocketAddrV4) -> UdpFlow
-    ensures { λ r. ⌜ r ≡ newFlow cl sv ⌝ }
+    ensures { λ r. ⌜ r ≡ newUdpFlow cl sv ⌝ }
 {
     UdpFlow::new(cl, sv)
 }

@@ -35,9 +35,9 @@ pub unsafe fn written<T>(call: impl FnOnce(*mut T) -> *mut T) -> T {
 // Each larger form is a function around another of the same name: around one that takes the struct's
 // words, or around one that takes a pointer to the answer.
 macro_rules! function {
-    (small $name:ident($($arg:ident: $type:ty),+) $answer:ty) => {
+    (small $name:ident($($arg:ident: $type:ty),*) $answer:ty) => {
         unsafe extern "C" {
-            pub fn $name($($arg: $type),+) -> $answer;
+            pub fn $name($($arg: $type),*) -> $answer;
         }
     };
     (argument $name:ident(

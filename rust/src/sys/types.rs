@@ -59,5 +59,6 @@ structs! {
     Assembly { key: Key, known: bool, total: usize, floor: usize, spoilt: bool }
     Opened { status: u8, assembly: Assembly }
     Taken { status: u8, outcome: u8, assembly: Assembly }
+    Progress { status: u8, outcome: u8, length: usize }
     Packet { headroom: usize, end: usize }
 }

@@ -2,10 +2,10 @@
 
 macro_rules! function {
     ($form:ident $name:ident(
-        $($arg:ident: $type:ty $([$($word:ident)+])?),+ $(; $($unused:ident)+)?
+        $($arg:ident: $type:ty $([$($word:ident)+])?),* $(; $($unused:ident)+)?
     ) $answer:ident) => {
         unsafe extern "C" {
-            pub fn $name($($arg: $type),+) -> $answer;
+            pub fn $name($($arg: $type),*) -> $answer;
         }
     };
 }

@@ -2,7 +2,7 @@
 use borrow.Author.Needs.{needs}
 use mathlib.Core.Path.{sym, _∙_}
 use Rattle.assembly.specs.Calls.{capacity, mapBytes}
-use Rattle.assembly.proofs.Calls.{opens-yes, opens-no}
+use Rattle.assembly.proofs.Calls.{opens-yes, opens-refused}
 use Rattle.assembly.proofs.open.Statement.{statement}
 use Rattle.assembly.proofs.open.Tie as tie
 
@@ -12,9 +12,7 @@ returns c =
     opens-yes capacity mapBytes (a .key) (a .payload .now) (a .map .now) _ _ _ (sym (c .before .before .before .before .before .before .before .before .is-sized .ensures) ∙ c .before .before .before .before .before .before .before .if1 .taken) (c .before .before .before .before .wipe .ensures)
 
 returns-2 : tie.Need-returns-2
-returns-2 c =
-    let a = c .before .before .before .before .args in
-    opens-no capacity mapBytes (a .key) (a .payload .now) (a .map .now) (sym (c .before .is-sized .ensures) ∙ c .if1 .left)
+returns-2 c = search (opens-refused capacity mapBytes)
 
 pub open-spec : {M : Type 1} → statement M
 open-spec =

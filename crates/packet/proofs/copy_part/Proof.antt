@@ -2,7 +2,7 @@
 use mathlib.Core.Path.{_≡_, ap, _∙_}
 use Prim.Native.Nat.{ℕ, _+_, _-_}
 use native.Mathlib.Omega.{arith}
-use lib.ListN.{take, drop}
+use lib.ListN.{length, take, drop}
 use borrow.Author.Needs.{needs}
 use borrow.Author.Tests.{lt-ltb, le-ltb}
 use Rattle.pkt.specs.Written.{written}
@@ -12,7 +12,8 @@ use Rattle.packet.proofs.copy_part.Tie as tie
 
 returns : tie.Need-returns
 returns c =
-    let t = lt-ltb _ _ (c .if1 .taken) in
+    let a = c .before .before .before .before .before .args in
+    let t = lt-ltb (length (a .out .now)) (a .s .len) (omega arith) in
     record { answer = simp t; after = simp t }
 
 returns-2 : tie.Need-returns-2
@@ -21,7 +22,7 @@ returns-2 c =
     let start = at-if1 .before .before .before .before .before in
     let a = start .args in
     let s = a .s in
-    let t = le-ltb _ _ (at-if1 .if1 .left) in
+    let t = le-ltb (length (a .out .now)) (s .len) (omega (arith, at-if1 .if1 .left)) in
     let e : s .off + s .len - s .off ≡ s .len = omega arith in
     record {
       answer = simp t;

@@ -28,7 +28,7 @@ returns-3 c =
     let start = at-is-valid .before in
     let a = start .args in
     let v = sym (at-is-valid .is-valid .ensures) ∙ not-false _ (at-if1 .if1 .left) in
-    simp (v, le-ltb 1048576 (a .p .end + a .k) (omega (arith, valid-true _ _ v)), lt-ltb _ _ (c .if3 .taken))
+    simp (v, le-ltb 1048576 (a .p .end + a .k) (omega (arith, valid-true _ _ v)), lt-ltb (a .n) (a .p .end + a .k) (omega arith))
 
 returns-4 : tie.Need-returns-4
 returns-4 c =
@@ -37,7 +37,7 @@ returns-4 c =
     let start = at-is-valid .before in
     let a = start .args in
     let v = sym (at-is-valid .is-valid .ensures) ∙ not-false _ (at-if1 .if1 .left) in
-    simp (v, le-ltb 1048576 (a .p .end + a .k) (omega (arith, valid-true _ _ v)), le-ltb _ _ (c .if3 .left))
+    simp (v, le-ltb 1048576 (a .p .end + a .k) (omega (arith, valid-true _ _ v)), le-ltb (a .n) (a .p .end + a .k) (omega arith))
 
 pub push-answer-spec : {M : Type 1} → statement M
 push-answer-spec =

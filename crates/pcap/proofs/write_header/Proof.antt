@@ -1,7 +1,9 @@
 -- The header is copied to the output's start, where it has room.
 use mathlib.Core.Path.{ap, _∙_}
 use Prim.Native.Nat.{ℕ}
+use native.Mathlib.Omega.{arith}
 use mathlib.Core.List.{List}
+use lib.ListN.{length}
 use borrow.Author.Needs.{needs}
 use borrow.Author.Tests.{lt-ltb, le-ltb}
 use Rattle.pkt.specs.Written.{written}
@@ -11,7 +13,7 @@ use Rattle.pcap.proofs.write_header.Tie as tie
 
 returns : tie.Need-returns
 returns c =
-    let t = lt-ltb _ _ (c .if1 .taken) in
+    let t = lt-ltb (length (c .before .before .args .out .now)) 24 (omega arith) in
     record { answer = simp t; after = simp t }
 
 returns-2 : tie.Need-returns-2
@@ -19,7 +21,7 @@ returns-2 c =
     let at = c .before .before in
     let got = at .before .before .before in
     let o : List ℕ = got .before .before .before .args .out .now in
-    let t = le-ltb _ _ (got .before .if1 .left) in
+    let t = le-ltb (length o) 24 (omega (arith, got .before .if1 .left)) in
     record {
       answer = simp t;
       after = simp t (at .copy .ensures .1 ∙ copy-written _ _ ∙ ap (λ (b : List ℕ). written b o) (got .header .ensures));

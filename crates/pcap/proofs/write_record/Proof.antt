@@ -13,7 +13,8 @@ use Rattle.pcap.proofs.write_record.Tie as tie
 put-record-requires : tie.Need-put-record-requires
 put-record-requires c κs =
     let at = c .before .before .before in
-    record-fits _ (at .before .before .before .args .usec) _ _ (sym (at .record-answer .ensures) ∙ ap capturedSays (c .before .enum-told .given .1))
+    let fits = record-fits _ (at .before .before .before .args .usec) _ _ (sym (at .record-answer .ensures) ∙ ap capturedSays (c .before .enum-told .given .1)) in
+    (fits .0, fits .2)
 
 returns : tie.Need-returns
 returns c =

@@ -1,5 +1,4 @@
--- 9 first, then 10.
-use borrow.Author.Tests.{lt-ltb, le-ltb}
+-- 9 first, then the number that is handed in.
 use mathlib.Core.Path.{refl, sym, _∙_}
 use Rattle.assembly.specs.Carried.{fitAnswer}
 use borrow.Author.Needs.{needs}
@@ -12,12 +11,13 @@ returns c = rw (sym (c .before .is-broken .ensures) ∙ c .if1 .taken) refl
 
 returns-2 : tie.Need-returns-2
 unfolding fitAnswer
-returns-2 c = rw (sym (c .before .before .before .is-broken .ensures) ∙ c .before .before .if1 .left, lt-ltb _ _ (c .if2 .taken)) refl
+returns-2 c = rw (sym (c .before .before .before .before .is-broken .ensures) ∙ c .before .before .before .if1 .left, sym (c .before .ends-above .ensures) ∙ c .if2 .taken) refl
 
 returns-3 : tie.Need-returns-3
 unfolding fitAnswer
-returns-3 c = rw (sym (c .before .before .before .is-broken .ensures) ∙ c .before .before .if1 .left, le-ltb _ _ (c .if2 .left)) refl
+returns-3 c = rw (sym (c .before .before .before .before .is-broken .ensures) ∙ c .before .before .before .if1 .left, sym (c .before .ends-above .ensures) ∙ c .if2 .left) refl
 
 pub fit-spec : {M : Type 1} → statement M
 fit-spec =
-    tie.close (tie.spec (λ c κs. search needs) returns (λ c. search needs) (λ c. search needs) (λ c. search needs) returns-2 returns-3)
+    tie.close
+    (tie.spec (λ c κs. search needs) returns (λ c. search needs) (λ c. search needs) (λ c κs. search needs) returns-2 returns-3)

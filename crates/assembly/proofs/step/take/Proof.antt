@@ -16,7 +16,7 @@ answered-requires c κs =
     ∙ step-fits _ _ _ (c .before .before .before .before .before .before .before .before .before .before .before .pre .1 .1) (search needs))
 
 returns : tie.Need-returns
-returns c = let p = c .before .before .before .before .before .before .put in moved (p .result) (p .last .0) (p .last .1 .0) _ _ (p .ensures) (c .answered .ensures (p .last .0))
+returns c = let p = c .before .before .before .before .before .before .put in moved (p .result) (p .last .0) (p .last .1 .0) _ _ _ (p .ensures) (c .answered .ensures (p .last .0))
 
 pub take-spec : {M : Type 1} → statement M
 take-spec =

@@ -1,7 +1,7 @@
 -- A checksum that is asked for was not refused.
 use Rattle.ezpkt.proofs.Deciding.{summed-is}
 use lib.ListN.{length}
-use mathlib.Core.Path.{refl, _∙_}
+use mathlib.Core.Path.{refl, sym, _∙_}
 use borrow.Author.Needs.{needs}
 use Rattle.ezpkt.proofs.write.udp_field.Statement.{statement}
 use Rattle.ezpkt.proofs.write.udp_field.Tie as tie
@@ -10,8 +10,9 @@ returns : tie.Need-returns
 returns c =
     let at-if = c .before .before in
     let a = at-if .before .before .args in
-    rw (at-if .if1 .taken)
-    (c .number .ensures ∙ summed-is (c .before .udp-csum .result) 65507 (length (a .payload .now)) _ (c .before .udp-csum .ensures) (at-if .before .before .pre))
+    let s = at-if .before .before .pre in
+    rw (at-if .if1 .taken, sym (s .1))
+    (c .number .ensures ∙ summed-is (c .before .udp-csum .result) 65507 (length (a .payload .now)) _ (c .before .udp-csum .ensures) (s .0))
 
 returns-2 : tie.Need-returns-2
 returns-2 c = rw (c .if1 .left) refl

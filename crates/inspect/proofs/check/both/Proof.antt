@@ -1,10 +1,9 @@
--- What is whole is summed, and never too long to be.
+-- What is whole is summed.
 use mathlib.Core.Path.{sym, ap, _∙_}
 use Rattle.pkt.specs.Answers.{Answer, andThen}
 use Rattle.inspect.specs.declared.check.Kind.{Kind}
 use Rattle.inspect.specs.Check.{verdictOf}
 use Rattle.inspect.specs.Answers.{foundSays}
-use Rattle.inspect.proofs.Checking.{sums-short}
 use borrow.Author.Needs.{needs}
 use Rattle.inspect.proofs.check.both.Statement.{statement}
 use Rattle.inspect.proofs.check.both.Tie as tie
@@ -23,7 +22,6 @@ returns-2 c =
     let a = at-whole .before .before .args in
     let e = sym (at-whole .whole .ensures) ∙ ap foundSays (at-kind .kind .given .1) in
     c .sums .ensures
-    ∙ sums-short (at-kind .kind .given .0 .0) (a .h) (a .part .now) (at-whole .before .before .pre)
     ∙ sym (ap (λ (w : Answer Kind). andThen w (λ k. verdictOf k (a .h) (a .part .now))) e)
 
 pub both-spec : {M : Type 1} → statement M

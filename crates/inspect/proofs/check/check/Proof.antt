@@ -32,14 +32,6 @@ part-both-end c =
     let f = read-framed (at-read .before .before .args .packet .now) _ (sym (at-read .read .ensures) ∙ ap readSays (c .before .h .given .1)) in
     omega arith
 
-both-requires : tie.Need-both-requires
-both-requires c κs =
-    let at-read = c .before .before .before .before in
-    let l : List ℕ = at-read .before .before .args .packet .now in
-    let e = sym (at-read .read .ensures) ∙ ap readSays (c .before .before .h .given .1) in
-    let f = read-framed l _ e in
-    simp (length-take, length-drop) (omega (arith, read-end l _ (λ i. at-read .before .shared-slice-known .given i .fits) e))
-
 returns : tie.Need-returns
 unfolding checkAnswer
 returns c =
@@ -56,6 +48,14 @@ returns-2 c =
     let l : List ℕ = at-read .before .before .args .packet .now in
     let e = sym (at-read .read .ensures) ∙ ap readSays (at-h .h .given .1) in
     c .both .ensures ∙ sym (ap (λ (a : Answer IpRead). andThen a (λ h. partAnswer h (dataOf h l))) e)
+
+both-requires : tie.Need-both-requires
+both-requires c κs =
+    let at-read = c .before .before .before .before in
+    let l : List ℕ = at-read .before .before .args .packet .now in
+    let e = sym (at-read .read .ensures) ∙ ap readSays (c .before .before .h .given .1) in
+    let f = read-framed l _ e in
+    simp (length-take, length-drop) (omega (arith, read-end l _ (λ i. at-read .before .shared-slice-known .given i .fits) e))
 
 pub check-spec : {M : Type 1} → statement M
 check-spec =

@@ -8,23 +8,28 @@ use Rattle.inspect.proofs.check.whole.Tie as tie
 
 returns : tie.Need-returns
 unfolding wholeAnswer
-returns c = simp (sym (c .before .is-piece .ensures) ∙ c .if1 .taken)
+returns c =
+    let at-other = c .before in
+    simp (← at-other .before .is-piece .ensures, ← at-other .is-other .ensures, c .if1 .taken)
 
 returns-2 : tie.Need-returns-2
 unfolding wholeAnswer
 returns-2 c =
-    let at-piece = c .before .before .before in
-    simp (sym (at-piece .is-piece .ensures) ∙ c .before .before .if1 .left, sym (c .before .is-other .ensures) ∙ c .if2 .taken)
+    let at-other = c .before .before in
+    simp (← at-other .before .is-piece .ensures, ← at-other .is-other .ensures, c .before .if1 .left, c .if2 .taken)
 
 returns-3 : tie.Need-returns-3
 unfolding wholeAnswer
 returns-3 c =
-    let at-other = c .before .before .before in
-    let at-piece = at-other .before .before in
+    let at-if2 = c .before .before in
+    let at-other = at-if2 .before .before in
     simp (
-      sym (at-piece .is-piece .ensures) ∙ at-other .before .if1 .left,
-      sym (at-other .is-other .ensures) ∙ c .before .before .if2 .left,
-      sym (c .before .is-cut .ensures) ∙ c .if3 .taken,
+      ← at-other .before .is-piece .ensures,
+      ← at-other .is-other .ensures,
+      ← c .before .is-cut .ensures,
+      at-if2 .before .if1 .left,
+      at-if2 .if2 .left,
+      c .if3 .taken,
     )
 
 kind-of-requires : tie.Need-kind-of-requires
@@ -36,12 +41,15 @@ returns-4 : tie.Need-returns-4
 unfolding wholeAnswer
 returns-4 c =
     let at-cut = c .before .before in
-    let at-other = at-cut .before .before in
-    let at-piece = at-other .before .before in
+    let at-if2 = at-cut .before in
+    let at-other = at-if2 .before .before in
     simp (
-      sym (at-piece .is-piece .ensures) ∙ at-other .before .if1 .left,
-      sym (at-other .is-other .ensures) ∙ at-cut .before .if2 .left,
-      sym (at-cut .is-cut .ensures) ∙ c .before .if3 .left,
+      ← at-other .before .is-piece .ensures,
+      ← at-other .is-other .ensures,
+      ← at-cut .is-cut .ensures,
+      at-if2 .before .if1 .left,
+      at-if2 .if2 .left,
+      c .before .if3 .left,
       c .kind-of .ensures,
     )
 
@@ -50,8 +58,8 @@ whole-spec =
     tie.close
     (tie.spec
     (λ c κs. search needs)
-    returns
     (λ c κs. search needs)
+    returns
     returns-2
     (λ c κs. search needs)
     returns-3

@@ -6,10 +6,10 @@ use lib.ListN.{length-take}
 use Prim.Native.Nat.{ℕ}
 use mathlib.Core.Path.{sym, ap, _∙_}
 use Rattle.inspect.specs.Answers.{readSays}
-use Rattle.inspect.specs.Header.{readAnswer}
+use Rattle.inspect.specs.Header.{summed, readAnswer}
 use native.Mathlib.Omega.{arith}
 use mathlib.Core.List.{List}
-use Rattle.inspect.proofs.Reading.{framed, summed, read-step}
+use Rattle.inspect.proofs.Reading.{framed, frame-end, read-step}
 use borrow.Author.Needs.{needs}
 use Rattle.inspect.proofs.header.read.Statement.{statement}
 use Rattle.inspect.proofs.header.read.Tie as tie
@@ -26,7 +26,8 @@ verify-requires c κs =
     let at-frame = c .before .before .before .before in
     let l : List ℕ = at-frame .before .before .args .packet .now in
     let e = sym (at-frame .frame .ensures) ∙ ap readSays (c .before .before .h .given .1) in
-    simp length-take (omega (arith, framed l _ e .head))
+    let f = framed l _ e in
+    simp length-take (omega (arith, frame-end l _ (λ i. at-frame .before .shared-slice-known .given i .fits) e))
 
 returns : tie.Need-returns
 unfolding readAnswer

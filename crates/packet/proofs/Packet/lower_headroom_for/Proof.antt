@@ -11,7 +11,8 @@ use Rattle.packet.proofs.Packet.lower_headroom_for.Tie as tie
 sub-place : tie.Need-sub-place
 sub-place c =
     let at-lower-answer = c .before .before .before .before in
-    omega (arith, lower-fits _ _ _ _ (sym (at-lower-answer .lower-answer .ensures) ∙ ap pushedSays (c .before .before .enum-told .given .1)))
+    let (v, k) = lower-fits _ _ _ _ (sym (at-lower-answer .lower-answer .ensures) ∙ ap pushedSays (c .before .before .enum-told .given .1)) in
+    omega (arith, valid-true _ _ v)
 
 place-requires : tie.Need-place-requires
 place-requires c κs =

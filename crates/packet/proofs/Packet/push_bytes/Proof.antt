@@ -1,13 +1,17 @@
 -- The answer is decided first; where it is no refusal the bytes have room.
 use mathlib.Core.Path.{sym, ap, _∙_}
+use native.Mathlib.Omega.{arith}
 use borrow.Author.Needs.{needs}
+use Rattle.packet.proofs.Headroom.{valid-true}
 use Rattle.packet.specs.Answers.{pushedSays}
 use Rattle.packet.proofs.Answers.{push-fits, carried-out, kept}
 use Rattle.packet.proofs.Packet.push_bytes.Statement.{statement}
 use Rattle.packet.proofs.Packet.push_bytes.Tie as tie
 
 place-requires : tie.Need-place-requires
-place-requires c κs = push-fits _ _ _ _ (sym (c .before .before .before .push-answer .ensures) ∙ ap pushedSays (c .before .enum-told .given .1))
+place-requires c κs =
+    let (v, room) = push-fits _ _ _ _ (sym (c .before .before .before .push-answer .ensures) ∙ ap pushedSays (c .before .enum-told .given .1)) in
+    omega (arith, valid-true _ _ v)
 
 returns : tie.Need-returns
 returns c =

@@ -2,7 +2,9 @@
 use Rattle.pkt.specs.Answers.{gives}
 use Rattle.pkt.specs.Sums.{total, canon}
 use Prim.Native.Nat.{ℕ, _+_, _-_}
+use native.Mathlib.Omega.{arith}
 use mathlib.Core.List.{List}
+use lib.ListN.{length}
 use mathlib.Core.Path.{ap, ap₂, _∙_}
 use Rattle.pkt.proofs.Headers.{tcp-finished}
 use borrow.Author.Tests.{lt-ltb, le-ltb}
@@ -11,7 +13,7 @@ use Rattle.pkt.proofs.ipv4.tcp_csum.Statement.{statement}
 use Rattle.pkt.proofs.ipv4.tcp_csum.Tie as tie
 
 returns : tie.Need-returns
-returns c = simp (lt-ltb _ _ (c .if1 .taken))
+returns c = simp (lt-ltb 65495 (length (c .before .before .args .payload .now)) (omega arith))
 
 returns-2 : tie.Need-returns-2
 returns-2 c =
@@ -21,7 +23,7 @@ returns-2 c =
     let known = at-if .before .shared-slice-known .given in
     let a = at-if .before .before .args in
     let p : List ℕ = a .payload .now in
-    simp (le-ltb _ _ (at-if .if1 .left))
+    simp (le-ltb 65495 (length p) (omega (arith, at-if .if1 .left)))
     (ap gives
     (c .finished .ensures
     ∙ ap₂ (λ (k : ℕ) (l : List ℕ). 65535 - canon (k + total l + total p)) (at-pseudo .csum-partial .ensures .0) (at-header .to-bytes .ensures)

@@ -3,7 +3,9 @@ use Rattle.pkt.proofs.Headers.{transport-finished}
 use Rattle.pkt.specs.Answers.{gives}
 use Rattle.pkt.specs.Sums.{total, canon}
 use Prim.Native.Nat.{ℕ, _+_, _-_}
+use native.Mathlib.Omega.{arith}
 use mathlib.Core.List.{List, []}
+use lib.ListN.{length}
 use mathlib.Core.Path.{ap, _∙_}
 use borrow.Author.Tests.{lt-ltb, le-ltb}
 use borrow.Author.Needs.{needs}
@@ -11,7 +13,7 @@ use Rattle.pkt.proofs.ipv4.transport_csum.Statement.{statement}
 use Rattle.pkt.proofs.ipv4.transport_csum.Tie as tie
 
 returns : tie.Need-returns
-returns c = simp (lt-ltb _ _ (c .if1 .taken))
+returns c = simp (lt-ltb 65515 (length (c .before .before .args .part .now)) (omega arith))
 
 returns-2 : tie.Need-returns-2
 returns-2 c =
@@ -20,7 +22,7 @@ returns-2 c =
     let known = at-if .before .shared-slice-known .given in
     let a = at-if .before .before .args in
     let l : List ℕ = a .part .now in
-    simp (le-ltb _ _ (at-if .if1 .left))
+    simp (le-ltb 65515 (length l) (omega (arith, at-if .if1 .left)))
     (ap gives
     (c .finished .ensures
     ∙ ap (λ (k : ℕ). 65535 - canon (k + total [] + total l)) (at-pseudo .csum-partial .ensures .0)

@@ -12,7 +12,7 @@ use Rattle.tcp4.proofs.TcpFlow.one.Tie as tie
 returns : tie.Need-returns
 returns c =
     let t = lt-ltb _ _ (c .if1 .taken) in
-    record { answer = simp t; after-it = simp t }
+    record { answer = simp t; after = simp t }
 
 returns-2 : tie.Need-returns-2
 returns-2 c =
@@ -20,7 +20,7 @@ returns-2 c =
     let z : 40 + n + 0 ≡ 40 + n = omega arith in
     let t = le-ltb _ _ (c .before .if1 .left) in
     let u = lt-ltb _ _ (c .if2 .taken) in
-    record { answer = simp (t, z, u); after-it = simp (t, z, u) }
+    record { answer = simp (t, z, u); after = simp (t, z, u) }
 
 returns-3 : tie.Need-returns-3
 returns-3 c =
@@ -34,7 +34,7 @@ returns-3 c =
     let u = le-ltb _ _ (at-if2 .if2 .left) in
     record {
       answer = simp (t, z, u, s, at-tx .tx .ensures .0);
-      after-it = simp (t, z, u, append-nil) (at-tx .tx .ensures .1);
+      after = simp (t, z, u, append-nil) (at-tx .tx .ensures .1);
     }
 
 pub one-spec : {M : Type 1} → statement M

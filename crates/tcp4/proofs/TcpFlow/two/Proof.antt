@@ -1,7 +1,7 @@
 -- The acknowledgment stands behind the message, and is built from the flow after it.
 use Rattle.tcp4.specs.declared.TcpFlow.{TcpFlow}
 use Rattle.tcp4.specs.declared.Side.{Side}
-use Rattle.tcp4.specs.Tcp4.{segmentOf, after, emit}
+use Rattle.tcp4.specs.Tcp4.{segmentOf, afterOne, emit}
 use Rattle.ezpkt.specs.Build.{tcpPacket}
 use Rattle.ezpkt.proofs.Sizes.{tcp-size}
 use Rattle.pkt.proofs.Written.{written-behind}
@@ -18,13 +18,13 @@ use Rattle.tcp4.proofs.TcpFlow.two.Tie as tie
 returns : tie.Need-returns
 returns c =
     let t = lt-ltb _ _ (c .if1 .taken) in
-    record { answer = simp t; after-it = simp t }
+    record { answer = simp t; after = simp t }
 
 returns-2 : tie.Need-returns-2
 returns-2 c =
     let t = le-ltb _ _ (c .before .if1 .left) in
     let u = lt-ltb _ _ (c .if2 .taken) in
-    record { answer = simp (t, u); after-it = simp (t, u) }
+    record { answer = simp (t, u); after = simp (t, u) }
 
 returns-3 : tie.Need-returns-3
 returns-3 c =
@@ -41,9 +41,9 @@ returns-3 c =
     let u = le-ltb _ _ (at-if2 .if2 .left) in
     let first : List ℕ = tcpPacket (segmentOf (a .self) (a .side) 0x18 (a .frag-off)) p in
     let then = ap₂ (λ (f : TcpFlow) (x : Side). tcpPacket (segmentOf f x 0x10 0) []) (at-1 .tx .ensures .0) (at-other .other-side .ensures) in
-    let flow = at-2 .tx2 .ensures .0 ∙ ap₂ (λ (f : TcpFlow) (x : Side). after f (emit x 0x10 0 [])) (at-1 .tx .ensures .0) (at-other .other-side .ensures) in
+    let flow = at-2 .tx2 .ensures .0 ∙ ap₂ (λ (f : TcpFlow) (x : Side). afterOne f (emit x 0x10 0 [])) (at-1 .tx .ensures .0) (at-other .other-side .ensures) in
     let both = written-behind first _ _ o _ _ (40 + n) (tcp-size _ p) (at-1 .tx .ensures .1) then (at-2 .tx2 .ensures .1) in
-    record { answer = simp (t, u, s, flow); after-it = simp (t, u, append-nil) both }
+    record { answer = simp (t, u, s, flow); after = simp (t, u, append-nil) both }
 
 pub two-spec : {M : Type 1} → statement M
 two-spec =

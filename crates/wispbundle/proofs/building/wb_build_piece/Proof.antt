@@ -1,11 +1,12 @@
 -- What the wrapped call answers is told to C.
-use Rattle.wispbundle.proofs.Calls.{builds}
+use Rattle.wispbundle.specs.Answers.{lengthFor}
+use Rattle.wispbundle.proofs.Calls.{told-to}
 use borrow.Author.Needs.{needs}
 use Rattle.wispbundle.proofs.building.wb_build_piece.Statement.{statement}
 use Rattle.wispbundle.proofs.building.wb_build_piece.Tie as tie
 
 returns : tie.Need-returns
-returns c = builds (c .built .ensures) (c .before .before .before .build .ensures)
+returns c = told-to lengthFor (c .built .ensures) (c .before .before .before .build .ensures)
 
 pub wb-build-piece-spec : {M : Type 1} → statement M
 wb-build-piece-spec = tie.close (tie.spec (λ c κs. search needs) (λ c κs. search needs) (λ c. search needs) returns)

@@ -5,7 +5,7 @@ use Rattle.wispbundle.proofs.tcp.wb_tcp_client_close.Statement.{stateme
 use Rattle.wispbundle.proofs.tcp.wb_tcp_client_close.Tie as tie
 
 returns : tie.Need-returns
-returns c = tcp-sends (c .sent .ensures) (c .before .before .before .client-close .ensures)
+returns c = search tcp-sends
 
 pub wb-tcp-client-close-spec : {M : Type 1} → statement M
 wb-tcp-client-close-spec = tie.close (tie.spec (λ c κs. search needs) (λ c κs. search needs) (λ c. search needs) returns)

@@ -5,7 +5,7 @@ use Rattle.wispbundle.proofs.tcp.wb_tcp_open.Statement.{statement}
 use Rattle.wispbundle.proofs.tcp.wb_tcp_open.Tie as tie
 
 returns : tie.Need-returns
-returns c = tcp-sends (c .sent .ensures) (c .before .before .before .«open» .ensures)
+returns c = search tcp-sends
 
 pub wb-tcp-open-spec : {M : Type 1} → statement M
 wb-tcp-open-spec = tie.close (tie.spec (λ c κs. search needs) (λ c κs. search needs) (λ c. search needs) returns)
