@@ -59,8 +59,8 @@ describes-valid κ C M s ps ok (spoiled c e) =
     ∙ valid-of (cleared κ C M true) (λ t h. let z : _≡_ {A = ℕ} 0 1 = cc in absurd (omega arith)) (omega arith)
 describes-valid κ C M s ps ok (sound n g) = good-valid κ C M s ps ok g
 
-pub assembles : (κ : Key) (C M : ℕ) → C ≤ 64 * M → Assembles κ C M
-assembles κ C M room =
+pub assembles : (C M : ℕ) (κ : Key) → C ≤ 64 * M → Assembles C M κ
+assembles C M κ room =
     record {
       one-end = λ ps qs ok same. any-order κ C M ps qs room ok same;
       spoilt-when = λ ps ok. spoilt-exactly κ C M ps room ok;
@@ -78,5 +78,5 @@ assembles κ C M room =
     }
 
 -- demand 3 over pieces, at document 01's sizes
-pub assembles-here : (κ : Key) → Assembles κ capacity mapBytes
-assembles-here κ = assembles κ capacity mapBytes (omega arith)
+pub assembles-here : (κ : Key) → Assembles capacity mapBytes κ
+assembles-here κ = assembles capacity mapBytes κ (omega arith)

@@ -19,7 +19,7 @@ AllAcceptable C ps = (p : Piece) → List·Memᴰ p ps → Acceptable C p
 abbrev pub Built : List ℕ → List Piece → Type 0
 Built d ps = (p : Piece) → List·Memᴰ p ps → Part d p
 
-pub record Assembles (k : Key) (C M : ℕ) : Type 0 where
+pub record Assembles (C M : ℕ) (k : Key) : Type 0 where
   -- "The same accepted pieces, in any order and with any repeats, end in the same state,
   pub one-end : (ps qs : List Piece) → AllAcceptable C ps → Same ps qs → run (opened k C M) ps ≡ run (opened k C M) qs
   -- spoilt exactly when two of them contradict each other

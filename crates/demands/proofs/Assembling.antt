@@ -134,7 +134,7 @@ module _ (t : Template) (d : List ℕ) (fits : Fitting t) (few : length d ≤ ca
       omega (arith, size)
 
   -- ---- lists of them
-  here : (k : Key) → demand.Assembles k capacity mapBytes
+  here : (k : Key) → demand.Assembles capacity mapBytes k
   here k = assembles-here k
 
   state-is : (ls : List (List ℕ)) → afterPackets t ls ≡ run (opened (templateKey t) capacity mapBytes) (piecesOf capacity (templateKey t) ls)

@@ -9,6 +9,8 @@ use Rattle.ezpkt.specs.Build.{answerOf, packetOf}
 use Rattle.tcp4.specs.Tcp4.{Emit, sendAnswer, sentBytes}
 use Rattle.ezpkt.specs.Icmp4.{withFlow}
 use Rattle.ezpkt.specs.declared.build.Request.{Request}
+use Rattle.pcap.specs.Answers.{recordAnswer}
+use Rattle.pcap.specs.Pcap.{recordBytes}
 use Rattle.tcp4.specs.declared.TcpFlow.{TcpFlow}
 use Rattle.ezpkt.specs.declared.icmp4.IcmpFlow.{IcmpFlow}
 use Rattle.packet.specs.Headroom.{valid}
@@ -38,6 +40,10 @@ Writes a b o r o′ = Given (lengthFor a) (leaves a b o) r o′
 -- the packet that a request and its payload p are, into the buffer o
 abbrev pub Builds : Request → List ℕ → List ℕ → «wb_length» → List ℕ → Type 0
 Builds q p o r o′ = Writes (answerOf q (length p) (length o)) (packetOf q p) o r o′
+
+-- a record of the packet d, taken at sec and usec, into the buffer o
+abbrev pub Records : ℕ → ℕ → List ℕ → List ℕ → «wb_length» → List ℕ → Type 0
+Records sec usec d o r o′ = Writes (recordAnswer (length d) usec (length o)) (recordBytes sec usec d) o r o′
 
 -- the dump of a packet in the buffer b, into the buffer o
 abbrev pub Dumps : Packet → List ℕ → List ℕ → «wb_length» → List ℕ → Type 0
