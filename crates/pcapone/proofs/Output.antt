@@ -1,12 +1,13 @@
--- How long the output is: the capture, or nothing.
+-- How long the output is, the capture or nothing, and what is promised where it is nothing.
 use mathlib.Core.Path.{_≡_, refl}
 use mathlib.Core.Bool.{Bool, true, false, _||_, cond}
 use mathlib.Core.List.{List, [], _∷_, append-nil}
-use Prim.Native.Nat.{ℕ, _+_, _≤_}
+use Prim.Native.Nat.{ℕ, _+_, _≤_, _<_}
 use native.Mathlib.Omega.{arith}
 use lib.ListN.{length, length-append}
 use lib.Dec.{ltb}
-use borrow.Author.Tests.{ltb-false}
+use borrow.Author.Tests.{lt-ltb, ltb-false}
+use Rattle.pkt.specs.Written.{written}
 use Rattle.ezpkt.specs.Icmp4.{newIcmpFlow, pingOf}
 use Rattle.ezpkt.proofs.Sizes.{size-is}
 use Rattle.pcap.specs.Pcap.{fileHeader, recordBytes, recordsBytes, captureBytes}
@@ -32,3 +33,16 @@ output-fits p room = go (ltb 4096 (length p)) (ltb room (68 + length p)) (λ e. 
 
 pub captures-fits : (p o : List ℕ) (r : ℕ) (o′ : List ℕ) → Captures p o r o′ → r ≤ length o
 captures-fits p o r o′ x = rw (x .answer) (output-fits p (length o))
+
+-- For more than 4,096 bytes, and where there is no room: none, and the buffer as it was.
+pub too-long : (p o o′ : List ℕ) → 4096 < length p → o′ ≡ o → Captures p o 0 o′
+unfolding written
+too-long p o o′ l e = let t = lt-ltb _ _ l in record { answer = simp t; after = simp t e }
+
+pub no-room : (p o o′ : List ℕ) → length o < 68 + length p → o′ ≡ o → Captures p o 0 o′
+unfolding written
+no-room p o o′ l e = go (ltb 4096 (length p)) refl
+  where
+    go : (b : Bool) → ltb 4096 (length p) ≡ b → Captures p o 0 o′
+    go true t = record { answer = simp t; after = simp t e }
+    go false t = let u = lt-ltb _ _ l in record { answer = simp (t, u); after = simp (t, u) e }

@@ -1,13 +1,13 @@
 -- The echo fits its buffer, so the packet stands at its start, and its capture is written.
 use Rattle.pcapone.specs.Capture.{fileOf}
-use Rattle.pcapone.proofs.Output.{file-length}
+use Rattle.pcapone.proofs.Output.{file-length, too-long, no-room}
 use Rattle.pkt.specs.Written.{written}
 use Rattle.pkt.specs.Answers.{gives}
 use Rattle.ezpkt.specs.Icmp4.{newIcmpFlow, pingOf}
 use Rattle.ezpkt.specs.Build.{answerOf}
 use Rattle.ezpkt.proofs.Verifying.{packet-front}
 use native.Mathlib.Omega.{arith}
-use borrow.Author.Tests.{lt-ltb, le-ltb}
+use borrow.Author.Tests.{le-ltb}
 use lib.ListN.{length, take, replicate}
 use mathlib.Core.List.{List}
 use Prim.Native.Nat.{ℕ, _+_, _-_}
@@ -17,17 +17,10 @@ use Rattle.pcapone.proofs.capture.capture.Statement.{statement}
 use Rattle.pcapone.proofs.capture.capture.Tie as tie
 
 returns : tie.Need-returns
-unfolding written
-returns c =
-    let t = lt-ltb _ _ (c .if1 .taken) in
-    record { answer = simp t; after = simp t }
+returns c = search too-long
 
 returns-2 : tie.Need-returns-2
-unfolding written
-returns-2 c =
-    let t = le-ltb _ _ (c .before .if1 .left) in
-    let u = lt-ltb _ _ (c .if2 .taken) in
-    record { answer = simp (t, u); after = simp (t, u) }
+returns-2 c = search no-room
 
 returns-3 : tie.Need-returns-3
 returns-3 c =
