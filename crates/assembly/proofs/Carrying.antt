@@ -31,6 +31,15 @@ pub head-by : (k : Key) (l : List ℕ) (a : Answer IpRead) → readAnswer l ≡ 
 unfolding headAnswer
 head-by k l a e = ap (λ (b : Answer IpRead). andThen b (keyedAnswer k)) e
 
+-- A header by its key g, of which b tells whether it is the assembly's: it is given, or refused by 8.
+pub same-key-given : (k g : Key) (h : IpRead) (b : Bool) → g ≡ keyOf h → b ≡ sameKey g k → b ≡ true → gives h ≡ keyedAnswer k h
+unfolding keyedAnswer
+same-key-given k g h b e t q = sym (pick-yes _ _ (ap (λ (x : Key). sameKey x k) (sym e) ∙ sym t ∙ q))
+
+pub other-key-eight : (k g : Key) (h : IpRead) (b : Bool) → g ≡ keyOf h → b ≡ sameKey g k → b ≡ false → refused 8 ≡ keyedAnswer k h
+unfolding keyedAnswer
+other-key-eight k g h b e t q = sym (pick-no _ _ (ap (λ (x : Key). sameKey x k) (sym e) ∙ sym t ∙ q))
+
 -- What accepting a header h of the packet l tells, up to its key.
 pub record Keyed (k : Key) (l : List ℕ) (h : IpRead) : Type 0 where
   pub read : readAnswer l ≡ gives h
