@@ -7,7 +7,7 @@ use mathlib.Core.List.{List, _++_}
 use lib.ListN.{length, take, drop}
 use lib.Seq.{slice}
 use lib.Dec.{ltb, eqb}
-use Rattle.pkt.specs.Answers.{Answer, refused, gives, fitting, mostTcp, mostUdp, mostIp}
+use Rattle.pkt.specs.Answers.{Answer, refused, gives, fitting, mostTcp, mostUdp, mostIp, mostOffset}
 use Rattle.pkt.specs.Fields.{value}
 use Rattle.pkt.specs.Rfc791.{ipHeader, ipDefault}
 use Rattle.pkt.specs.Rfc768.{udpHeader, udpChecksum}
@@ -78,12 +78,22 @@ echoPacket e p =
 
 -- ---- a piece
 
--- "carries bytes min(8·off, n) up to, not including, min(8·off + 8·len, n)"
+-- "carries bytes min(8·off, n) up to, not including, min(8·off + 8·len, n)": where len blocks from block off begin and end in n bytes
+abbrev pub startAt : ℕ → ℕ → ℕ
+startAt off n = min (8 * off) n
+
+abbrev pub endAt : ℕ → ℕ → ℕ → ℕ
+endAt off len n = min (8 * off + 8 * len) n
+
+-- the length of their packet
+abbrev pub fragmentSize : ℕ → ℕ → ℕ → ℕ
+fragmentSize off len n = 20 + (endAt off len n - startAt off n)
+
 abbrev pub startOf : IpPiece → ℕ → ℕ
-startOf q n = min (8 * q .off) n
+startOf q n = startAt (q .off) n
 
 abbrev pub endOf : IpPiece → ℕ → ℕ
-endOf q n = min (8 * q .off + 8 * q .len) n
+endOf q n = endAt (q .off) (q .len) n
 
 -- the bit n where b holds, and no bit where it does not
 abbrev pub flagBit : Bool → ℕ → ℕ
@@ -112,7 +122,7 @@ pieceIp q size mf =
 
 -- the length of a piece's packet, for a payload of n bytes
 abbrev pub pieceSize : IpPiece → ℕ → ℕ
-pieceSize q n = 20 + (endOf q n - startOf q n)
+pieceSize q n = fragmentSize (q .off) (q .len) n
 
 unfoldable pub piecePacket : IpPiece → List ℕ → List ℕ
 piecePacket q p =
@@ -139,10 +149,14 @@ sizeOf (Piece q) n = pieceSize q n
 abbrev pub sizedAnswer : ℕ → ℕ → ℕ → ℕ → Answer ℕ
 sizedAnswer most head n room = cond (ltb most n) (refused 1) (fitting (head + n) room)
 
+-- Number 2: "piece offset above 8,191"
+abbrev pub isBadOffset : ℕ → Bool
+isBadOffset off = ltb mostOffset off
+
 -- Refusals 1, 2 and 3.
 abbrev pub fragmentAnswer : IpPiece → ℕ → ℕ → Answer ℕ
 fragmentAnswer q n room =
-    cond (ltb mostIp n) (refused 1) (cond (ltb 8191 (q .off)) (refused 2) (fitting (pieceSize q n) room))
+    cond (ltb mostIp n) (refused 1) (cond (isBadOffset (q .off)) (refused 2) (fitting (pieceSize q n) room))
 
 -- the answer, for a payload of n bytes and room for so many
 abbrev pub answerOf : Request → ℕ → ℕ → Answer ℕ

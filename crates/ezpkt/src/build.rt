@@ -1,4 +1,5 @@
 // One request to build names one kind of packet.
+use crate::ip4;
 use crate::ip4::Template;
 use crate::write;
 use pkt::ipv4::tcp_hdr;
@@ -101,11 +102,10 @@ fn sized_piece(q: IpPiece, n: usize, room: usize) -> Built
     if n > limit::IP_PAYLOAD {
         return Built::Refused(refusal::TOO_LONG);
     }
-    if off > 8191 {
+    if off > limit::OFFSET {
         return Built::Refused(refusal::BAD_OFFSET);
     }
-    let span = write::span_of(q, n);
-    let size = 20 + (span.end - span.start);
+    let size = ip4::fragment_size(off, q.len, n);
     if room < size {
         return Built::Refused(refusal::NO_ROOM);
     }

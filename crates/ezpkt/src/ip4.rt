@@ -3,9 +3,11 @@ use crate::build;
 use crate::build::Built;
 use crate::build::IpPiece;
 use crate::build::Request;
+use crate::write;
+ghost use mathlib.Core.Path.{_≡_};
 ghost use Prim.Native.Nat.{_%_};
 ghost use lib.ListN.{length};
-ghost use Rattle.ezpkt.specs.Build.{Answered};
+ghost use Rattle.ezpkt.specs.Build.{fragmentSize, Answered};
 ghost use Rattle.ezpkt.specs.Ip4.{fragmentOf, tailOf, datagramOf};
 
 // What every piece of a payload says in its header.
@@ -19,6 +21,14 @@ pub struct Template {
     pub protocol: u8,
     pub saddr: u32,
     pub daddr: u32,
+}
+
+// The length of the packet with len blocks from block off of a payload of n bytes, as far as they are there.
+pub fn fragment_size(off: u16, len: u16, n: usize) -> usize
+    ensures { λ r. ⌜ r ≡ fragmentSize off len n ⌝ }
+{
+    let span = write::span_of(off, len, n);
+    20 + (span.end - span.start)
 }
 
 // len blocks of the payload from block off, as far as they are there.

@@ -18,7 +18,7 @@ ghost use Rattle.pkt.specs.Written.{written};
 ghost use Rattle.pkt.specs.Answers.{gives, mostTcp, mostUdp, mostIp};
 ghost use Rattle.pkt.specs.Rfc791.{ipHeader};
 ghost use Rattle.ezpkt.specs.Answers.{summed};
-ghost use Rattle.ezpkt.specs.Build.{flowIp, udpHdr, udpField, echoType, startOf, endOf, pieceFlags, pieceIp, flagBit, tcpPacket, udpPacket, echoPacket, piecePacket, packetOf, answerOf, sizeOf};
+ghost use Rattle.ezpkt.specs.Build.{flowIp, udpHdr, udpField, echoType, startAt, endAt, pieceFlags, pieceIp, flagBit, tcpPacket, udpPacket, echoPacket, piecePacket, packetOf, answerOf, sizeOf};
 ghost use Rattle.ezpkt.specs.declared.build.Request.the-variants.{Piece};
 
 // src at the start of dst, whose other bytes stay.
@@ -153,13 +153,13 @@ fn least(a: usize, b: usize) -> usize
     if a < b { a } else { b }
 }
 
-pub(crate) fn span_of(q: IpPiece, n: usize) -> Span
-    ensures { λ r. ⌜ (r .start ≡ startOf q n) × (r .end ≡ endOf q n) ⌝ }
+pub(crate) fn span_of(off: u16, len: u16, n: usize) -> Span
+    ensures { λ r. ⌜ (r .start ≡ startAt off n) × (r .end ≡ endAt off len n) ⌝ }
 {
-    let from = 8 * (q.off as usize);
+    let from = 8 * (off as usize);
     Span {
         start: least(from, n),
-        end: least(from + 8 * (q.len as usize), n),
+        end: least(from + 8 * (len as usize), n),
     }
 }
 
@@ -204,7 +204,7 @@ fn piece(q: IpPiece, payload: &[u8], out: &mut [u8])
     ensures { λ _. ⌜ now (out .exit) ≡ written (piecePacket q (now (payload .entry))) (now (out .entry)) ⌝ }
 {
     let n = payload.len();
-    let span = span_of(q, n);
+    let span = span_of(q.off, q.len, n);
     let start = span.start;
     let end = span.end;
     let ip = piece_ip(q, (20 + (end - start)) as u16, end != n);

@@ -30,6 +30,19 @@ abbrev pub andThen : {A B : Type 0} → Answer A → (A → Answer B) → Answer
 andThen (refused n) f = refused n
 andThen (gives a) f = f a
 
+-- An answer of a call over a list: a refusal's number for the whole call, a refusal's number with the index of the first element that it is for,
+-- or what the call gives.
+pub data ListAnswer (A : Type 0) : Type 0 where
+  refusedWhole : ℕ → ListAnswer A
+  refusedAt : ℕ → ℕ → ListAnswer A
+  givesAll : A → ListAnswer A
+
+-- the same with no index
+abbrev pub plainly : {A : Type 0} → ListAnswer A → Answer A
+plainly (refusedWhole n) = refused n
+plainly (refusedAt n i) = refused n
+plainly (givesAll a) = gives a
+
 abbrev pub sumSays : Sum → Answer ℕ
 sumSays (Is c) = gives c
 sumSays (Refused n) = refused n
@@ -47,6 +60,10 @@ mostIp = 65515
 
 abbrev pub mostBytes : ℕ
 mostBytes = 65535
+
+-- Number 2: "piece offset above 8,191"
+abbrev pub mostOffset : ℕ
+mostOffset = 8191
 
 -- Number 1 is given exactly when there are more bytes than `most`.
 abbrev pub unlessLong : ℕ → ℕ → ℕ → Answer ℕ

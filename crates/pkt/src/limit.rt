@@ -1,4 +1,4 @@
-// The most bytes that number 1 lets through.
+// The most that numbers 1 and 2 let through.
 
 // The payload of a TCP segment: 65,535 less two headers of 20 bytes.
 pub const TCP_PAYLOAD: usize = 65495;
@@ -8,3 +8,5 @@ pub const UDP_PAYLOAD: usize = 65507;
 pub const IP_PAYLOAD: usize = 65515;
 // The bytes of a packet, of a sum or of a capture record.
 pub const BYTES: usize = 65535;
+// The offset of a piece, in blocks.
+pub const OFFSET: u16 = 8191;

@@ -1,4 +1,4 @@
--- By the tests in document 01's order; the size is that of the piece's span.
+-- By the tests in document 01's order.
 use borrow.Author.Tests.{lt-ltb, le-ltb}
 use borrow.Author.Needs.{needs}
 use Rattle.ezpkt.proofs.build.sized_piece.Statement.{statement}
@@ -12,26 +12,23 @@ returns-2 c = simp (le-ltb _ _ (c .before .if1 .left), lt-ltb _ _ (c .if2 .taken
 
 returns-3 : tie.Need-returns-3
 returns-3 c =
-    let at-span = c .before .before in
+    let at-size = c .before in
     simp (
-      le-ltb _ _ (at-span .before .before .if1 .left),
-      le-ltb _ _ (at-span .before .if2 .left),
-      ← at-span .span-of .ensures .0,
-      ← at-span .span-of .ensures .1,
+      le-ltb _ _ (at-size .before .before .if1 .left),
+      le-ltb _ _ (at-size .before .if2 .left),
+      ← at-size .fragment-size .ensures,
       lt-ltb _ _ (c .if3 .taken),
     )
 
 returns-4 : tie.Need-returns-4
 returns-4 c =
-    let at-span = c .before .before in
+    let at-size = c .before in
     simp (
-      le-ltb _ _ (at-span .before .before .if1 .left),
-      le-ltb _ _ (at-span .before .if2 .left),
-      ← at-span .span-of .ensures .0,
-      ← at-span .span-of .ensures .1,
+      le-ltb _ _ (at-size .before .before .if1 .left),
+      le-ltb _ _ (at-size .before .if2 .left),
+      ← at-size .fragment-size .ensures,
       le-ltb _ _ (c .if3 .left),
     )
 
 pub sized-piece-spec : {M : Type 1} → statement M
-sized-piece-spec =
-    tie.close (tie.spec returns returns-2 (λ c κs. search needs) (λ c. search needs) (λ c. search needs) returns-3 returns-4)
+sized-piece-spec = tie.close (tie.spec returns returns-2 (λ c κs. search needs) returns-3 returns-4)
