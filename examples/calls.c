@@ -8,13 +8,16 @@
 
 #include "wispbundle.h"
 
+enum { PLACES = 4 };
+
 static const uint8_t none[1], lap[4] = {'l', 'a', 'p', '!'}, twenty[] = "twenty bytes of lap!";
 static const wb_addr cl = {.ip = 0x0a000001, .port = 40000}, sv = {.ip = 0x0a000002, .port = 80};
 static const wb_template template_ = {
     .tos = 3, .id = 7, .df = true, .ttl = 64, .protocol = WB_PROTOCOL_UDP, .saddr = 0x0a000001, .daddr = 0x0a000002};
 static uint8_t out[200], many[65536], payload[WB_PAYLOAD_BYTES], map[WB_MAP_BYTES];
+static size_t ends[PLACES];
 
-/* ---- what was answered, and what was written. The bytes of out are 0xaa before each call. */
+/* ---- what was answered, and what was written. The bytes of out are 0xaa before each call, and ends are 9. */
 
 /* prints a call's text, makes it, and has its answer printed */
 #define MAKE(answer, call) (before(#call), answer(call))
@@ -22,6 +25,7 @@ static uint8_t out[200], many[65536], payload[WB_PAYLOAD_BYTES], map[WB_MAP_BYTE
 static void before(const char *call)
 {
     memset(out, 0xaa, sizeof out);
+    for (size_t i = 0; i < PLACES; i++) ends[i] = 9;
     printf("%s\n", call);
 }
 
@@ -79,6 +83,14 @@ static void would_be(wb_length r)
     status(r.status);
     printf(", %zu bytes", r.length);
     written(0);
+}
+
+static void listed(wb_listed r)
+{
+    status(r.status);
+    printf(", %zu bytes, index %zu, ends", r.length, r.index);
+    for (size_t i = 0; i < PLACES; i++) printf(" %zu", ends[i]);
+    written(r.length);
 }
 
 static void sum(wb_sum r)
@@ -248,6 +260,24 @@ static void pieces(void)
     MAKE(length, wb_datagram(template_, twenty, 20, out, sizeof out));
 }
 
+static void lists(void)
+{
+    static const wb_block_request three[] = {{.off = 0, .len = 1}, {.off = 1, .len = 1}, {.off = 2, .len = 1}};
+    static const wb_block_request twice[] = {{.off = 2, .len = 0}, {.off = 2, .len = 0}};
+    static const wb_block_request far[] = {
+        {.off = WB_MOST_OFFSET, .len = 1}, {.off = 0, .len = 1}, {.off = WB_MOST_OFFSET + 1}, {.off = 65535}};
+    MAKE(listed, wb_fragments(template_, twenty, 20, three, 3, out, 80, ends, 3));
+    MAKE(listed, wb_fragments(template_, twenty, 20, three, 3, out, 79, ends, 3));
+    MAKE(listed, wb_fragments(template_, twenty, 20, three, 3, out, 80, ends, 2));
+    MAKE(listed, wb_fragments(template_, twenty, 20, twice, 2, out, sizeof out, ends, PLACES));
+    MAKE(listed, wb_fragments(template_, twenty, 20, far, 2, out, sizeof out, ends, PLACES));
+    MAKE(listed, wb_fragments(template_, twenty, 20, far, 3, out, sizeof out, ends, PLACES));
+    MAKE(listed, wb_fragments(template_, twenty, 20, far, 4, out, 0, ends, 0));
+    MAKE(listed, wb_fragments(template_, many, WB_MOST_IPV4, three, 0, out, sizeof out, ends, PLACES));
+    MAKE(listed, wb_fragments(template_, many, WB_MOST_IPV4 + 1, three, 0, out, sizeof out, ends, PLACES));
+    MAKE(listed, wb_fragments(template_, many, WB_MOST_IPV4 + 1, far, 4, out, 0, ends, 0));
+}
+
 static void tcp_packets(void)
 {
     before("wb_tcp_new(cl, sv, 1000, 5000)");
@@ -392,6 +422,7 @@ int main(void)
     building();
     bounds();
     pieces();
+    lists();
     tcp_packets();
     tcp_numbers();
     udp();

@@ -3,13 +3,15 @@
  * Link with libwispbundle.a (`rt staticlib wispbundle`), which is for x86-64 Linux, from C11 or C++11.
  *
  * What a caller owes. Bytes go in as a pointer and a count: so many bytes are there, at any alignment, and the pointer
- * is not NULL, also where the count is 0. A buffer that is written to (no const) overlaps no other bytes of the same
+ * is not NULL, also where the count is 0. Requests and ends go in likewise, but they are counted themselves and not
+ * their bytes, and lie where C aligns them. A buffer that is written to (no const) overlaps no other bytes of the same
  * call. A bool is 0 or 1. Numbers in structs are plain: 10.0.0.1 is 0x0a000001, and port 80 is 80.
  *
  * What a call owes. It takes every input that keeps to this, whatever the numbers and the bytes are, and answers. The
  * answer of a call that can refuse has a status: 0 where the call was carried out, and else the number of the refusal.
  * A refused call leaves every buffer as it was, and all else in its answer is 0, but a flow or an assembly that was
- * handed in comes back as it was. So `flow = answer.flow` is always right.
+ * handed in comes back as it was, and where one of a list is refused, the answer has its index. So `flow = answer.flow`
+ * is always right.
  *
  * Threads. Calls share no state: all that a call knows is in its arguments, and all that it changes is in its answer
  * and in the buffers that it is lent. Threads may call at the same time, if none of them uses a buffer that another
@@ -36,7 +38,7 @@ extern "C" {
 
 /* ---- the version: another number after each change of a struct or a call, also where every size stays. The header is
  * the archive's exactly if wb_version answers WB_VERSION. */
-#define WB_VERSION 2
+#define WB_VERSION 3
 
 uint32_t wb_version(void);
 
@@ -46,7 +48,7 @@ enum {
     WB_TOO_LONG = 1,        /* payload above 65,495 (TCP), 65,507 (UDP, ICMP), 65,515 (IPv4 payload); more than
                                65,535 bytes to sum or to put in one capture record */
     WB_BAD_OFFSET = 2,      /* piece offset above 8,191 */
-    WB_NO_ROOM = 3,         /* the buffer is shorter than what is to be written */
+    WB_NO_ROOM = 3,         /* a buffer is shorter than what is to be written */
     WB_SHORT = 4,           /* fewer than 20 bytes, or fewer than the total length */
     WB_NOT_IPV4 = 5,        /* first byte is not 0x45 */
     WB_BAD_TOTAL = 6,       /* total length below 20 */
@@ -176,8 +178,8 @@ wb_length wb_build_piece(wb_ip_piece piece, const uint8_t *payload, size_t paylo
  * A piece carries the payload's bytes from 8·off up to, not including, 8·(off + len), as far as they are there; MF is
  * set exactly if bytes follow. A piece past the payload's end is empty and has MF clear, so it claims a longer
  * datagram: with the payload's last piece it spoils an assembly. At the offsets 8,190 and 8,191 it ends above 65,515,
- * so taking it is refused by 10, and it spoils nothing. Each call writes one packet to the start of out, and answers
- * its length. */
+ * so taking it is refused by 10, and it spoils nothing. A call for one piece writes its packet to the start of out, and
+ * answers its length. */
 
 /* The same packet as wb_build_piece writes. Refuses by 1, 2, 3. */
 wb_length wb_fragment(wb_template template_, const uint8_t *payload, size_t payload_len, uint16_t off, uint16_t len,
@@ -187,6 +189,28 @@ wb_length wb_tail(wb_template template_, const uint8_t *payload, size_t payload_
                   size_t out_len);
 /* The whole payload, with offset 0 and MF clear. Refuses by 1, 3. */
 wb_length wb_datagram(wb_template template_, const uint8_t *payload, size_t payload_len, uint8_t *out, size_t out_len);
+
+/* One piece of a list: len blocks of 8 bytes of the payload, from block off on. */
+typedef struct {
+    uint16_t off;
+    uint16_t len;
+} wb_block_request;
+
+/* length is how many bytes were written, from the buffer's start on. index is that of the first request with an offset
+ * above 8,191, where the status is 2, and else 0. */
+typedef struct {
+    uint8_t status;
+    size_t length;
+    size_t index;
+} wb_listed;
+
+/* All pieces of a list: for each request the packet that wb_fragment writes, end to end to the start of out, and where
+ * packet i ends, to ends[i]; or none of them. What lies behind, in out and in ends, keeps its contents. A request that
+ * stands twice is written twice, and an empty list is accepted and writes nothing. Refuses by 1, 2, 3: by 1 also where
+ * the list is empty, by 2 for an offset anywhere in it, and by 3 where out is shorter than all packets together or ends
+ * than the list. */
+wb_listed wb_fragments(wb_template template_, const uint8_t *payload, size_t payload_len, const wb_block_request *list,
+                       size_t list_len, uint8_t *out, size_t out_len, size_t *ends, size_t ends_len);
 
 /* ---- TCP flows
  * A flow has two ends and the next sequence number of each; numbers wrap at 2^32. A call that sends writes its packets
@@ -467,6 +491,15 @@ WB_SIZE(wb_ip_piece, 20);
 WB_AT(wb_ip_piece, template_, 0);
 WB_AT(wb_ip_piece, off, 16);
 WB_AT(wb_ip_piece, len, 18);
+
+WB_SIZE(wb_block_request, 4);
+WB_AT(wb_block_request, off, 0);
+WB_AT(wb_block_request, len, 2);
+
+WB_SIZE(wb_listed, 24);
+WB_AT(wb_listed, status, 0);
+WB_AT(wb_listed, length, 8);
+WB_AT(wb_listed, index, 16);
 
 WB_SIZE(wb_addr, 8);
 WB_AT(wb_addr, ip, 0);

@@ -4,13 +4,17 @@ use crate::measure::{Calls, calls};
 use ezpkt::ip4::IpFrag;
 use pkt::Packet;
 use pkt::ipv4::ip_hdr;
+use std::cell::RefCell;
 use std::hint::black_box;
 use std::net::SocketAddrV4;
+use std::rc::Rc;
 use wispbundle::sys;
 
 /// What is measured side by side.
 pub struct Subject {
     pub ours: Calls,
+    /// The same by single calls of the archive, where `ours` is one for a list.
+    pub singly: Option<Calls>,
     pub rust: Option<Calls>,
     pub copy: Calls,
 }
@@ -43,6 +47,7 @@ pub fn checksum(n: usize) -> Subject {
             let sum = unsafe { sys::wb_ip_csum(from.as_ptr(), from.len()) };
             accepted(black_box(sum).status);
         }),
+        singly: None,
         rust: Some(calls(move || {
             black_box(pkt::ipv4::ip_csum(black_box(&rust)));
         })),
@@ -77,6 +82,7 @@ pub fn build_udp(n: usize) -> Subject {
         ours: calls(move || {
             black_box(write_udp(black_box(&payload), black_box(&mut out)));
         }),
+        singly: None,
         rust: Some(calls(move || {
             let packet = Packet::from(flow.client_dgram(black_box(&rust)).csum());
             drop(black_box(packet));
@@ -117,10 +123,18 @@ fn offsets(n: usize, len: u16) -> impl Iterator<Item = u16> {
     (0..n.div_ceil(8) as u16).step_by(usize::from(len))
 }
 
+fn rust_cut(n: usize, len: u16) -> Calls {
+    let rust = IpFrag::new(header(), bytes(n));
+    calls(move || {
+        for off in offsets(n, len) {
+            drop(black_box(black_box(&rust).fragment(off, len, true)));
+        }
+    })
+}
+
 /// A payload of `n` bytes, cut at every `len` blocks.
 pub fn cut(n: usize, len: u16) -> Subject {
     let (payload, mut out) = (bytes(n), vec![0; ROOM]);
-    let rust = IpFrag::new(header(), bytes(n));
     Subject {
         ours: calls(move || {
             for off in offsets(n, len) {
@@ -132,11 +146,73 @@ pub fn cut(n: usize, len: u16) -> Subject {
                 ));
             }
         }),
-        rust: Some(calls(move || {
-            for off in offsets(n, len) {
-                drop(black_box(black_box(&rust).fragment(off, len, true)));
-            }
+        singly: None,
+        rust: Some(rust_cut(n, len)),
+        copy: copy(n),
+    }
+}
+
+/// A list of pieces, and the buffers that it is cut into.
+struct List {
+    payload: Vec<u8>,
+    requests: Vec<sys::BlockRequest>,
+    out: Vec<u8>,
+    ends: Vec<usize>,
+}
+
+impl List {
+    /// A payload of `n` bytes, cut at every `len` blocks.
+    fn new(n: usize, len: u16) -> Self {
+        let request = |off| sys::BlockRequest { off, len };
+        let requests: Vec<_> = offsets(n, len).map(request).collect();
+        Self {
+            payload: bytes(n),
+            ends: vec![0; requests.len()],
+            out: vec![0; ROOM],
+            requests,
+        }
+    }
+
+    fn cut(&mut self) -> usize {
+        let (from, count) = (self.payload.as_ptr(), self.payload.len());
+        let (list, requests) = (self.requests.as_ptr(), self.requests.len());
+        let (to, room) = (self.out.as_mut_ptr(), self.out.len());
+        let (ends, places) = (self.ends.as_mut_ptr(), self.ends.len());
+        // SAFETY: all pointers and counts are those of slices, and both buffers are borrowed alone.
+        let answer = unsafe {
+            sys::wb_fragments(
+                TEMPLATE, from, count, list, requests, to, room, ends, places,
+            )
+        };
+        accepted(answer.status);
+        answer.length
+    }
+
+    /// The same by a call for each piece.
+    fn cut_singly(&mut self) -> usize {
+        let mut end = 0;
+        for (request, place) in self.requests.iter().zip(&mut self.ends) {
+            let out = &mut self.out[end..];
+            end += write_piece(&self.payload, request.off, request.len, out);
+            *place = end;
+        }
+        end
+    }
+}
+
+/// What [`cut`] cuts, end to end by a list. Both ways work on the same buffers, so that where these lie
+/// does not count.
+pub fn cut_list(n: usize, len: u16) -> Subject {
+    let list = Rc::new(RefCell::new(List::new(n, len)));
+    let same = list.clone();
+    Subject {
+        ours: calls(move || {
+            black_box(black_box(&mut *list.borrow_mut()).cut());
+        }),
+        singly: Some(calls(move || {
+            black_box(black_box(&mut *same.borrow_mut()).cut_singly());
         })),
+        rust: Some(rust_cut(n, len)),
         copy: copy(n),
     }
 }
@@ -214,6 +290,7 @@ pub fn open() -> Subject {
     let mut assembly = Assembly::new();
     Subject {
         ours: calls(move || black_box(&mut assembly).open()),
+        singly: None,
         rust: None,
         copy: copy(wispbundle::PAYLOAD_BYTES + wispbundle::MAP_BYTES),
     }
@@ -260,6 +337,7 @@ pub fn take(n: usize, len: u16, order: Order) -> Subject {
             }
             assert_eq!(outcome, 2, "the pieces that are measured are complete");
         }),
+        singly: None,
         rust: None,
         copy: copy(n),
     }
@@ -277,6 +355,7 @@ pub fn check(n: usize) -> Subject {
             let answer = unsafe { sys::wb_check(packet.as_ptr(), packet.len()) };
             accepted(black_box(answer).status);
         }),
+        singly: None,
         rust: None,
         copy: copy(length),
     }

@@ -4,7 +4,8 @@
 //!
 //! Every call takes every input. It writes to the start of the buffer that it is lent, answers how
 //! many bytes it wrote, and leaves the bytes behind them as they were. A call that is refused answers
-//! the [`Refusal`] and changes nothing: no byte, no flow, no assembly.
+//! the [`Refusal`], or over a list the [`ListRefusal`], and changes nothing: no byte, no flow, no
+//! assembly.
 //!
 //! A telemetry datagram, cut in three and put together from the last piece to the first:
 //!
@@ -58,8 +59,8 @@ pub use check::{Good, check};
 pub use csum::ip_csum;
 pub use dump::{hex_dump, hex_dump_len};
 pub use icmp::IcmpFlow;
-pub use piece::{Piece, Template};
-pub use refusal::Refusal;
+pub use piece::{BlockRequest, Piece, Template};
+pub use refusal::{ListRefusal, Refusal};
 pub use tcp::{Message, Sides, TcpFlow};
 pub use udp::{Choices, UdpFlow};
 pub use version::version;

@@ -2,7 +2,8 @@
 //! far as they are there; MF is set exactly if bytes follow. Each call refuses by 1, 2, 3.
 
 use crate::lend::lend;
-use crate::{Refusal, sys};
+pub use crate::sys::BlockRequest;
+use crate::{ListRefusal, Refusal, sys};
 use std::net::Ipv4Addr;
 
 /// What every piece of one payload says in its header. `evil` is the reserved bit.
@@ -92,6 +93,49 @@ impl Template {
     /// The whole payload, with offset 0 and MF clear.
     pub fn datagram(&self, payload: &[u8], out: &mut [u8]) -> Result<usize, Refusal> {
         Refusal::or_length(lend!(wb_datagram, self.raw(), payload, out))
+    }
+
+    /// All pieces of a list: for each request the packet that [`fragment`](Self::fragment) writes, end
+    /// to end, and where packet `i` ends, to `ends[i]`. Number 2 is for an offset anywhere in the list,
+    /// and 3 also for fewer ends than requests; neither `out` nor `ends` is then written to.
+    ///
+    /// ```
+    /// use wispbundle::{BlockRequest, Template};
+    ///
+    /// let template = Template::new([10, 0, 0, 1].into(), [10, 0, 0, 2].into());
+    /// let mut list = [BlockRequest { off: 0, len: 2 }, BlockRequest { off: 2, len: 1 }];
+    /// let (mut out, mut ends) = ([0; 60], [0; 2]);
+    /// assert_eq!(template.fragments(&[7; 20], &list, &mut out, &mut ends), Ok(60));
+    /// assert_eq!(ends, [36, 60]);
+    /// list[1].off = 8192;
+    /// let refused = template.fragments(&[7; 20], &list, &mut out, &mut ends).unwrap_err();
+    /// assert_eq!((refused.number(), refused.index), (2, Some(1)));
+    /// ```
+    pub fn fragments(
+        &self,
+        payload: &[u8],
+        list: &[BlockRequest],
+        out: &mut [u8],
+        ends: &mut [usize],
+    ) -> Result<usize, ListRefusal> {
+        let (from, count) = (payload.as_ptr(), payload.len());
+        let (list, requests) = (list.as_ptr(), list.len());
+        let (to, room) = (out.as_mut_ptr(), out.len());
+        let (ends, places) = (ends.as_mut_ptr(), ends.len());
+        // SAFETY: all pointers and counts are those of slices, and both buffers are borrowed alone.
+        ListRefusal::or_length(unsafe {
+            sys::wb_fragments(
+                self.raw(),
+                from,
+                count,
+                list,
+                requests,
+                to,
+                room,
+                ends,
+                places,
+            )
+        })
     }
 }
 

@@ -81,3 +81,50 @@ impl fmt::Display for Refusal {
 }
 
 impl Error for Refusal {}
+
+/// Why a call over a list was refused. Number 2 is for one request, and the others are for the whole
+/// call.
+#[derive(Copy, Clone, Debug, PartialEq, Eq)]
+pub struct ListRefusal {
+    pub refusal: Refusal,
+    /// Where one request is refused, the index of the first such.
+    pub index: Option<usize>,
+}
+
+impl ListRefusal {
+    /// Document 01's number.
+    pub fn number(self) -> u8 {
+        self.refusal.number()
+    }
+
+    pub(crate) fn or_length(answer: sys::Listed) -> Result<usize, Self> {
+        let refused = |refusal| Self {
+            refusal,
+            index: (refusal == Refusal::BadOffset).then_some(answer.index),
+        };
+        let accepted = Refusal::unless_accepted(answer.status);
+        accepted.map(|()| answer.length).map_err(refused)
+    }
+}
+
+/// As [`Refusal`], with the index behind the number: `refusal 2 at index 5: piece offset above 8,191`.
+impl fmt::Display for ListRefusal {
+    fn fmt(&self, f: &mut fmt::Formatter<'_>) -> fmt::Result {
+        match self.index {
+            None => self.refusal.fmt(f),
+            Some(index) => {
+                let (number, words) = (self.number(), self.refusal.words());
+                write!(f, "refusal {number} at index {index}: {words}")
+            }
+        }
+    }
+}
+
+impl Error for ListRefusal {}
+
+/// Without the index.
+impl From<ListRefusal> for Refusal {
+    fn from(refused: ListRefusal) -> Self {
+        refused.refusal
+    }
+}

@@ -1,9 +1,9 @@
 //! The archive's functions as include/wispbundle.h declares them, under the same names.
 //!
-//! For every function here: a pointer and the count behind it name that many bytes, the pointer is
-//! not null, and bytes behind a `*mut` overlap no other bytes of the same call. That is all that a
-//! caller owes; the safe calls of this crate pay it with slices. And the archive is that of these
-//! declarations: [`wb_version`] answers [`VERSION`].
+//! For every function here: a pointer and the count behind it name that many bytes, requests or
+//! ends, the pointer is aligned and not null, and bytes behind a `*mut` overlap no other bytes of the
+//! same call. That is all that a caller owes; the safe calls of this crate pay it with slices. And
+//! the archive is that of these declarations: [`wb_version`] answers [`VERSION`].
 
 mod types;
 pub use types::*;
@@ -20,7 +20,7 @@ mod aarch64;
 compile_error!("libwispbundle.a is for x86-64; beside it only aarch64 is known, for tests");
 
 /// The header's `WB_VERSION`: the number of the archive whose structs and calls these are.
-pub const VERSION: u32 = 2;
+pub const VERSION: u32 = 3;
 
 macro_rules! functions {
     ($($form:ident $($name:ident),+: fn $args:tt -> $answer:ident;)+) => {
@@ -63,6 +63,11 @@ functions! {
     small wb_datagram: fn(
         template: Template, payload: *const u8, payload_len: usize, out: *mut u8, out_len: usize
     ) -> Length;
+    answer wb_fragments: fn(
+        template: Template, payload: *const u8, payload_len: usize,
+        list: *const BlockRequest, list_len: usize,
+        out: *mut u8, out_len: usize, ends: *mut usize, ends_len: usize
+    ) -> Listed;
 
     answer wb_tcp_new: fn(cl: Addr, sv: Addr, cl_seq: u32, sv_seq: u32) -> TcpFlow;
     both wb_tcp_open, wb_tcp_client_close, wb_tcp_server_close, wb_tcp_client_reset, wb_tcp_server_reset,

@@ -2,7 +2,56 @@
 
 mod common;
 use common::*;
-use wispbundle::{Piece, Refusal, Template};
+use wispbundle::{
+    Assembly, BlockRequest, ListRefusal, MAP_BYTES, Outcome, PAYLOAD_BYTES, Piece, Refusal,
+    Template, UdpDatagram,
+};
+
+/// What a place for an end holds before a call: no packet ends there.
+const NO_END: usize = 7;
+
+/// A telemetry datagram's requests: 1,480, 1,480 and 528 bytes.
+const THREE: [(u16, u16); 3] = [(0, 185), (185, 185), (370, 66)];
+
+fn requests(list: &[(u16, u16)]) -> Vec<BlockRequest> {
+    list.iter()
+        .map(|&(off, len)| BlockRequest { off, len })
+        .collect()
+}
+
+/// What single calls write for a list, end to end, and where each packet ends.
+fn one_by_one(payload: &[u8], list: &[(u16, u16)]) -> (Vec<u8>, Vec<usize>) {
+    let (mut packets, mut ends) = (Vec::new(), Vec::new());
+    for &(off, len) in list {
+        packets.extend(written(|out| template().fragment(payload, off, len, out)));
+        ends.push(packets.len());
+    }
+    (packets, ends)
+}
+
+/// Cuts the list with so much more room than it needs, and compares both buffers whole.
+fn cut_with(spare: usize, payload: &[u8], list: &[(u16, u16)]) {
+    let (mut packets, mut ends) = one_by_one(payload, list);
+    let length = packets.len();
+    packets.resize(length + spare, UNTOUCHED);
+    ends.resize(list.len() + spare, NO_END);
+    let (mut out, mut at) = (vec![UNTOUCHED; packets.len()], vec![NO_END; ends.len()]);
+    let answer = template().fragments(payload, &requests(list), &mut out, &mut at);
+    assert_eq!((answer, at), (Ok(length), ends));
+    assert!(out == packets);
+}
+
+/// Room for so many bytes and so many ends, a payload and a list.
+type Lent<'a> = ((usize, usize), &'a [u8], &'a [(u16, u16)]);
+
+/// Has the list refused, which leaves both buffers as they were.
+fn list_refused(refusal: Refusal, index: Option<usize>, ((room, places), payload, list): Lent) {
+    let (mut out, mut ends) = (vec![UNTOUCHED; room], vec![NO_END; places]);
+    let answer = template().fragments(payload, &requests(list), &mut out, &mut ends);
+    assert_eq!(answer, Err(ListRefusal { refusal, index }));
+    assert_eq!(ends, vec![NO_END; places]);
+    assert!(out == vec![UNTOUCHED; room]);
+}
 
 #[test]
 fn the_worked_pieces_of_20_bytes() {
@@ -94,4 +143,68 @@ fn refusals_in_their_order() {
     refused(39, Refusal::NoRoom, |out| {
         template().datagram(&long[..20], out)
     });
+}
+
+#[test]
+fn a_list_is_cut_as_by_single_calls() {
+    let payload = counted(3488);
+    for list in [
+        &THREE[..],
+        &[],
+        &[(0, 0)],
+        &[(185, 185), (185, 185)],
+        &[(370, 66), (0, 185), (0, 436), (436, 1), (0, 185)],
+        &[(8191, 65_535), (0, 65_535), (435, 0)],
+    ] {
+        for spare in [0, 1, 9] {
+            cut_with(spare, &payload, list);
+            cut_with(spare, &[], list);
+        }
+    }
+    cut_with(0, &counted(65_515), &[(0, 8189), (8189, 1), (8190, 1)]);
+}
+
+#[test]
+fn a_telemetry_datagram_by_a_list() {
+    let datagram = UdpDatagram::new(CL, SV);
+    let packet = written(|out| datagram.build(&counted(3480), out));
+    let sent = &packet[20..];
+    let (mut out, mut ends) = (vec![0; 3548], [0; 3]);
+    let answer = template().fragments(sent, &requests(&THREE), &mut out, &mut ends);
+    assert_eq!((answer, ends), (Ok(3548), [1500, 3000, 3548]));
+    assert!(out == one_by_one(sent, &THREE).0);
+    let (mut payload, mut map) = (vec![0; PAYLOAD_BYTES], vec![0; MAP_BYTES]);
+    let mut assembly = Assembly::open(KEY, &mut payload, &mut map).unwrap();
+    for (from, to, outcome) in [
+        (3000, 3548, Outcome::Waiting),
+        (0, 1500, Outcome::Waiting),
+        (1500, 3000, Outcome::Complete),
+    ] {
+        assert_eq!(assembly.take(&out[from..to]), Ok(outcome));
+    }
+    assert_eq!(assembly.held(), Some(sent));
+}
+
+#[test]
+fn refusals_of_a_list_in_their_order() {
+    let (long, enough) = (counted(65_516), (LONGEST, 9));
+    let ok = &long[..65_515];
+    for lent in [enough, (0, 0)] {
+        for list in [&[][..], &THREE, &[(8192, 1)]] {
+            list_refused(Refusal::TooLong, None, (lent, &long, list));
+        }
+        for (index, list) in [
+            (0, &[(8192, 1)][..]),
+            (1, &[(0, 185), (8192, 185), (370, 66)]),
+            (1, &[(0, 1), (65_535, 0), (8191, 1), (8192, 1)]),
+            (3, &[(0, 1), (1, 1), (8191, 1), (8192, 1)]),
+        ] {
+            list_refused(Refusal::BadOffset, Some(index), (lent, ok, list));
+        }
+    }
+    let sent = &long[..3488];
+    for lent in [(3547, 3), (3547, 9), (3548, 2), (9999, 2), (0, 0)] {
+        list_refused(Refusal::NoRoom, None, (lent, sent, &THREE));
+    }
+    list_refused(Refusal::NoRoom, None, ((19, 1), sent, &[(8191, 1)]));
 }

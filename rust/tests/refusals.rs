@@ -1,7 +1,7 @@
 //! The numbers and words of refusals.
 
 use std::error::Error;
-use wispbundle::Refusal;
+use wispbundle::{ListRefusal, Refusal};
 
 #[test]
 fn numbers_run_from_1_to_17() {
@@ -24,6 +24,23 @@ fn each_says_its_number_and_words() {
     for refusal in Refusal::ALL {
         let start = format!("refusal {}: ", refusal.number());
         assert_eq!(refusal.to_string(), start + refusal.words());
+    }
+}
+
+#[test]
+fn one_of_a_list_says_its_index() {
+    let (refusal, index) = (Refusal::BadOffset, Some(5));
+    let refused = ListRefusal { refusal, index };
+    assert_eq!((refused.number(), Refusal::from(refused)), (2, refusal));
+    let boxed: Box<dyn Error> = Box::new(refused);
+    assert_eq!(
+        boxed.to_string(),
+        "refusal 2 at index 5: piece offset above 8,191"
+    );
+    for refusal in [Refusal::TooLong, Refusal::NoRoom] {
+        let index = None;
+        let refused = ListRefusal { refusal, index };
+        assert_eq!(refused.to_string(), refusal.to_string());
     }
 }
 

@@ -10,4 +10,5 @@ pub mod Completing
 pub mod Round
 pub mod Worked
 pub mod Gathering
+pub mod Listing
 pub mod Demands

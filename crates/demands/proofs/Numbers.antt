@@ -6,14 +6,16 @@ use Prim.Native.Nat.{ℕ, zero, suc, _+_, _*_, _<_}
 use native.Mathlib.Omega.{arith}
 use lib.Dec.{ltb, eqb}
 use lib.ListN.{length, take}
-use borrow.Author.Tests.{eq-eqb}
-use Rattle.pkt.specs.Answers.{Answer, refused, gives, andThen, mapped, unlessLong, fitting}
+use borrow.Author.Tests.{ltb-true, eq-eqb}
+use Rattle.pkt.specs.Answers.{Answer, refused, gives, andThen, mapped, ListAnswer, refusedWhole, refusedAt, unlessLong, fitting}
 use Rattle.ezpkt.specs.Build.{sizeOf, sizedAnswer, answerOf}
 use Rattle.ezpkt.specs.Icmp4.{echoGone}
 use Rattle.tcp4.specs.Tcp4 as tcp
+use Rattle.pieces.specs.Fragments.{sumOf, firstBad, fragmentsAnswer}
 use Rattle.ezpkt.specs.declared.build.Request.{Request}
 use Rattle.ezpkt.specs.declared.build.Request.the-variants.{Tcp, Udp, Echo, Piece}
 use Rattle.tcp4.specs.declared.TcpFlow.{TcpFlow}
+use Rattle.pieces.specs.declared.BlockRequest.{BlockRequest}
 use Rattle.inspect.specs.Answers.{whole, good}
 use Rattle.inspect.specs.Header.{fieldAt, headerOf, frameAnswer, readAnswer, dataOf}
 use Rattle.inspect.specs.Check.{isPiece, isOther, tcpCut, isCut, wholeAnswer, verifiesBehindPseudo, verdictOf, checkAnswer, examineAnswer}
@@ -30,7 +32,7 @@ use Rattle.packet.specs.Headroom.{mostEnd, valid, leads}
 use Rattle.packet.specs.Answers.{ifValid, lowerAnswer, copyAnswer}
 use Rattle.packet.specs.declared.Packet.{Packet}
 use Rattle.pcap.specs.Answers.{recordAnswer}
-use Rattle.demands.specs.Numbers.{isIn, Among, number, accepted, buildNumbers, Numbered}
+use Rattle.demands.specs.Numbers.{isIn, Among, number, accepted, AmongList, number-whole, number-at, accepted-all, buildNumbers, Numbered}
 use Rattle.pkt.specs.Rfc1071.{verifies}
 
 -- a test that refuses by x where it holds, or where it does not, and what follows
@@ -78,6 +80,30 @@ built-in (Piece q) n room =
 
 pub sent-in : (f : TcpFlow) (es : List tcp.Emit) (room : ℕ) → Among (1 ∷ 3 ∷ []) (tcp.sendAnswer f es room)
 sent-in f es room = refusing _ (tcp.anyLong es) 1 _ refl (refusing _ (ltb room (tcp.sizeAll es)) 3 _ refl (accepted _))
+
+-- ---- building from a list of count requests
+
+module _ {A : Type 0} (ns ms : List ℕ) (count : ℕ) where
+  -- a test that refuses the whole by x, and what follows
+  refusing-whole : (t : Bool) (x : ℕ) (rest : ListAnswer A) → isIn x ns ≡ true → AmongList ns ms count rest
+      → AmongList ns ms count (cond t (refusedWhole x) rest)
+  refusing-whole true x rest h r = number-whole x h
+  refusing-whole false x rest h r = r
+
+  -- one that refuses by x where i is a request's index
+  refusing-at : (i x : ℕ) (rest : ListAnswer A) → isIn x ms ≡ true → AmongList ns ms count rest
+      → AmongList ns ms count (cond (ltb i count) (refusedAt x i) rest)
+  refusing-at i x rest h r = go (ltb i count) refl
+    where
+      go : (t : Bool) → ltb i count ≡ t → AmongList ns ms count (cond t (refusedAt x i) rest)
+      go true e = number-at x i h (ltb-true i count e)
+      go false e = r
+
+-- 1 of the payload, 2 of the first offset that is too large, 3 of the output and of the places for ends
+pub fragments-in : (rs : List BlockRequest) (n room places : ℕ) → AmongList (1 ∷ 3 ∷ []) (2 ∷ []) (length rs) (fragmentsAnswer rs n room places)
+fragments-in rs n room places =
+    refusing-whole _ _ _ (ltb 65515 n) 1 _ refl
+    (refusing-at _ _ _ (firstBad rs) 2 _ refl (refusing-whole _ _ _ (ltb room (sumOf n rs) || ltb places (length rs)) 3 _ refl (accepted-all _)))
 
 -- ---- reading, where 4, 5 and 6 are among the numbers
 
@@ -189,6 +215,7 @@ numbered =
       building = λ q p o r o′ x. told _ _ _ (x .answer) (built-in q (length p) (length o));
       echoing = λ e f p o r o′ x. told _ _ _ (x .answer) (mapped-in _ (echoGone f) _ (built-in (Echo e) (length p) (length o)));
       sending = λ f es o r o′ x. told _ _ _ (x .answer) (sent-in f es (length o));
+      cutting = λ t rs p o e r o′ e′ x. subst (AmongList _ _ _) (sym (x .answer)) (fragments-in rs (length p) (length o) (length e));
       opening = λ C M k d m r d′ m′ x. told _ _ _ (x .answer) (mapped-in _ recordOf _ (open-in C M k (length d) (length m)));
       taking = λ C M s l r d m x. told _ _ _ (x .answer) (mapped-in _ replyOf _ (take-in C M s l));
       placing = λ C far n h r e. told _ _ _ e (piece-in _ C far n h refl (second-in 9 far));

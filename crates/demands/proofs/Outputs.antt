@@ -34,7 +34,7 @@ use Rattle.demands.proofs.Checked.{packet-checked}
 -- ---- one packet
 
 -- what lies between two others
-between : (a m r : List ℕ) (i n : ℕ) → length a ≡ i → length m ≡ n → slice i (i + n) (a ++ (m ++ r)) ≡ m
+pub between : (a m r : List ℕ) (i n : ℕ) → length a ≡ i → length m ≡ n → slice i (i + n) (a ++ (m ++ r)) ≡ m
 between a m r i n at size =
     subst (λ (k : ℕ). slice k (k + n) (a ++ (m ++ r)) ≡ m) at
     (ap (drop (length a)) (take-append-add a (m ++ r) n ∙ ap (λ (l : List ℕ). a ++ l) (take-at m r n size)) ∙ drop-append-seam a m)

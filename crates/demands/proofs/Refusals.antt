@@ -4,7 +4,7 @@ use mathlib.Core.List.{List}
 use Prim.Native.Nat.{ℕ}
 use native.Mathlib.Omega.{arith}
 use lib.ListN.{length}
-use Rattle.pkt.specs.Answers.{Answer, refused, gives, mapped}
+use Rattle.pkt.specs.Answers.{Answer, refused, gives, mapped, plainly}
 use Rattle.pkt.specs.Written.{leaves}
 use Rattle.ezpkt.specs.Build.{answerOf, packetOf}
 use Rattle.ezpkt.specs.Icmp4.{echoGone}
@@ -30,6 +30,12 @@ payload-left a n d d′ e q = q ∙ ap (λ b. payloadAfter b d) (sym e)
 map-left : (a : Answer State) (n : ℕ) (m m′ : List ℕ) → refused n ≡ a → m′ ≡ mapAfter a m → m′ ≡ m
 map-left a n m m′ e q = q ∙ ap (λ b. mapAfter b m) (sym e)
 
+-- what it leaves of an output and a list of ends
+both-left : (a : Answer ℕ) (n : ℕ) (k l o e o′ e′ : List ℕ) → refused n ≡ a → _≡_ {A = List ℕ × List ℕ} (o′, e′) (leaves a k o, leaves a l e)
+    → (o′ ≡ o) × (e′ ≡ e)
+both-left a n k l o e o′ e′ r q =
+    (left a n k o o′ r (ap (λ (b : List ℕ × List ℕ). b .0) q), left a n l e e′ r (ap (λ (b : List ℕ × List ℕ). b .1) q))
+
 -- Demand 1: "A refused call changes no lent byte, no flow and no assembly."
 pub refused-keep : RefusedKeep
 refused-keep =
@@ -40,6 +46,8 @@ refused-keep =
           let a = answerOf q (length p) (length o) in
           left a n (packetOf q p) o o′ (mapped-refused (echoGone f) a n (x .answer)) (x .after);
       sending = λ f es o o′ n x. left _ n _ o o′ (x .answer) (x .after);
+      cutting = λ t rs p o e o′ e′ n x. both-left _ n _ _ o e o′ e′ (ap plainly (x .answer)) (x .after);
+      cutting-at = λ t rs p o e o′ e′ n i x. both-left _ n _ _ o e o′ e′ (ap plainly (x .answer)) (x .after);
       opening =
           λ C M k d m d′ m′ n x.
           let a = openAnswer C M k (length d) (length m) in

@@ -2,22 +2,27 @@
 use mathlib.Core.Path.{_≡_}
 use mathlib.Core.Bool.{Bool, true, false, _||_}
 use mathlib.Core.List.{List, [], _∷_}
-use Prim.Native.Nat.{ℕ}
+use Prim.Native.Nat.{ℕ, _<_}
 use lib.Dec.{eqb}
-use Rattle.pkt.specs.Answers.{Answer, refused, gives, unlessLong, sumSays}
+use lib.ListN.{length}
+use Rattle.pkt.specs.Answers.{Answer, refused, gives, ListAnswer, refusedWhole, refusedAt, givesAll, unlessLong, sumSays}
 use Rattle.pkt.specs.declared.ipv4.Sum.{Sum}
 use Rattle.ezpkt.specs.Answers.{builtSays}
 use Rattle.ezpkt.specs.Build.{answerOf, Answered}
 use Rattle.ezpkt.specs.Icmp4 as icmp
 use Rattle.tcp4.specs.Tcp4 as tcp
+use Rattle.pieces.specs.Fragments.{piecesSays, Fragmented}
 use Rattle.ezpkt.specs.declared.build.Request.{Request}
 use Rattle.ezpkt.specs.declared.build.Request.the-variants.{Tcp, Udp, Echo, Piece}
 use Rattle.ezpkt.specs.declared.build.IcmpEcho.{IcmpEcho}
 use Rattle.ezpkt.specs.declared.build.Built.{Built}
+use Rattle.ezpkt.specs.declared.ip4.Template.{Template}
 use Rattle.ezpkt.specs.declared.icmp4.IcmpFlow.{IcmpFlow}
 use Rattle.ezpkt.specs.declared.icmp4.EchoSent as echo
 use Rattle.tcp4.specs.declared.TcpFlow.{TcpFlow}
 use Rattle.tcp4.specs.declared.Sent.{Sent}
+use Rattle.pieces.specs.declared.BlockRequest.{BlockRequest}
+use Rattle.pieces.specs.declared.Pieces.{Pieces}
 use Rattle.inspect.specs.Answers.{readSays, examinedSays, tcpSays, checkedSays}
 use Rattle.inspect.specs.Header.{frameAnswer, readAnswer}
 use Rattle.inspect.specs.Check.{examineAnswer, checkAnswer}
@@ -55,6 +60,12 @@ pub data Among {A : Type 0} (ns : List ℕ) : Answer A → Type 0 where
   number : (n : ℕ) → isIn n ns ≡ true → Among ns (refused n)
   accepted : (a : A) → Among ns (gives a)
 
+-- over a list of count elements: one that is no refusal, or one of the whole by a number of ns, or one by a number of ms with an element's index
+pub data AmongList {A : Type 0} (ns ms : List ℕ) (count : ℕ) : ListAnswer A → Type 0 where
+  number-whole : (n : ℕ) → isIn n ns ≡ true → AmongList ns ms count (refusedWhole n)
+  number-at : (n i : ℕ) → isIn n ms ≡ true → i < count → AmongList ns ms count (refusedAt n i)
+  accepted-all : (a : A) → AmongList ns ms count (givesAll a)
+
 -- "building 1, 2, 3", of which 2 is "piece offset above 8,191"
 abbrev pub buildNumbers : Request → List ℕ
 buildNumbers (Tcp t) = 1 ∷ 3 ∷ []
@@ -75,6 +86,9 @@ pub record Numbered : Type 0 where
       → Among (1 ∷ 3 ∷ []) (icmp.echoSentSays r)
   -- the calls of `TcpFlow` that send
   pub sending : (f : TcpFlow) (es : List tcp.Emit) (o : List ℕ) (r : Sent) (o′ : List ℕ) → tcp.Sends f es o r o′ → Among (1 ∷ 3 ∷ []) (tcp.sentSays r)
+  -- `fragments`: 1 and 3 of the whole list, and 2 with the index of a request
+  pub cutting : (t : Template) (rs : List BlockRequest) (p o e : List ℕ) (r : Pieces) (o′ e′ : List ℕ) → Fragmented t rs p o e r o′ e′
+      → AmongList (1 ∷ 3 ∷ []) (2 ∷ []) (length rs) (piecesSays r)
   -- "opening gives only 11"
   pub opening : (C M : ℕ) (k : Key) (d m : List ℕ) (r : Opened) (d′ m′ : List ℕ) → Opens C M k d m r d′ m′ → Among (11 ∷ []) (openedSays r)
   -- "Assembly 11, 4 (under 20), 5, 6, 4 (total), 7, 8, 9, 10"

@@ -7,12 +7,16 @@ use Rattle.pkt.specs.Answers.{Answer}
 use Rattle.ezpkt.specs.Build.{Answered}
 use Rattle.ezpkt.specs.Icmp4.{Echoed}
 use Rattle.tcp4.specs.Tcp4.{Emit, Sends}
+use Rattle.pieces.specs.Fragments.{Fragmented}
 use Rattle.ezpkt.specs.declared.build.Request.{Request}
 use Rattle.ezpkt.specs.declared.build.Built.the-variants as built
+use Rattle.ezpkt.specs.declared.ip4.Template.{Template}
 use Rattle.ezpkt.specs.declared.icmp4.IcmpFlow.{IcmpFlow}
 use Rattle.ezpkt.specs.declared.icmp4.EchoSent.the-variants as echo
 use Rattle.tcp4.specs.declared.TcpFlow.{TcpFlow}
 use Rattle.tcp4.specs.declared.Sent.the-variants as sent
+use Rattle.pieces.specs.declared.BlockRequest.{BlockRequest}
+use Rattle.pieces.specs.declared.Pieces.the-variants as pieces
 use Rattle.inspect.specs.declared.header.IpRead.{IpRead}
 use Rattle.assembly.specs.declared.Key.{Key}
 use Rattle.assembly.specs.declared.Rec.{Rec}
@@ -38,6 +42,12 @@ pub record RefusedKeep : Type 0 where
   pub echoing : (q : Request) (f : IcmpFlow) (p o o′ : List ℕ) (n : ℕ) → Echoed q f p o (echo.Refused n) o′ → o′ ≡ o
   -- the calls of `TcpFlow` that send: the output
   pub sending : (f : TcpFlow) (es : List Emit) (o o′ : List ℕ) (n : ℕ) → Sends f es o (sent.Refused n) o′ → o′ ≡ o
+  -- `fragments`: the output and the ends, where the whole list is refused by a number,
+  pub cutting : (t : Template) (rs : List BlockRequest) (p o e o′ e′ : List ℕ) (n : ℕ) → Fragmented t rs p o e (pieces.Refused n) o′ e′
+      → (o′ ≡ o) × (e′ ≡ e)
+  -- and where the number comes with the index i of a request
+  pub cutting-at : (t : Template) (rs : List BlockRequest) (p o e o′ e′ : List ℕ) (n i : ℕ) → Fragmented t rs p o e (pieces.RefusedAt n i) o′ e′
+      → (o′ ≡ o) × (e′ ≡ e)
   -- `open` of an assembly: both buffers
   pub opening : (C M : ℕ) (k : Key) (d m d′ m′ : List ℕ) (n : ℕ) → Opens C M k d m (opened.Refused n) d′ m′ → (d′ ≡ d) × (m′ ≡ m)
   -- `take`: both buffers

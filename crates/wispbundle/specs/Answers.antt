@@ -1,9 +1,9 @@
--- What each answer is to C. The status is 0 where the call was carried out, and else the refusal's number in document 01; on a refusal
--- all else is 0, but a flow or an assembly that was handed in comes back as it was.
+-- What each answer is to C. The status is 0 where the call was carried out, and else the refusal's number; on a refusal all else is 0, but a
+-- flow or an assembly that was handed in comes back as it was, and a refusal with an index has it.
 use Prim.Native.Nat.{ℕ}
 use mathlib.Core.Bool.{Bool, true, false, cond}
 use lib.ListN.{getD}
-use Rattle.pkt.specs.Answers.{Answer, refused, gives}
+use Rattle.pkt.specs.Answers.{Answer, refused, gives, ListAnswer, refusedWhole, refusedAt, givesAll}
 use Rattle.ezpkt.specs.Icmp4 as icmp
 use Rattle.tcp4.specs.Tcp4 as tcp
 use Rattle.ezpkt.specs.declared.icmp4.IcmpFlow.{IcmpFlow}
@@ -22,6 +22,7 @@ use Rattle.assembly.specs.declared.Total.{Total}
 use Rattle.assembly.specs.declared.Total.the-variants.{Known, Unknown}
 use Rattle.wispbundle.specs.declared.sums.«wb_sum».{«wb_sum»}
 use Rattle.wispbundle.specs.declared.lengths.«wb_length».{«wb_length»}
+use Rattle.wispbundle.specs.declared.building.«wb_listed».{«wb_listed»}
 use Rattle.wispbundle.specs.declared.tcp.«wb_tcp_sent».{«wb_tcp_sent»}
 use Rattle.wispbundle.specs.declared.tcp.«wb_seq».{«wb_seq»}
 use Rattle.wispbundle.specs.declared.tcp.«wb_pushed».{«wb_pushed»}
@@ -42,6 +43,12 @@ sumFor (refused n) = record { status = n; sum = 0 }
 abbrev pub lengthFor : Answer ℕ → «wb_length»
 lengthFor (gives k) = record { status = 0; length = k }
 lengthFor (refused n) = record { status = n; length = 0 }
+
+-- how many bytes were written for a list; on a refusal that is for one of the list, the index of the first such
+abbrev pub listedFor : ListAnswer ℕ → «wb_listed»
+listedFor (givesAll k) = record { status = 0; length = k; index = 0 }
+listedFor (refusedWhole n) = record { status = n; length = 0; index = 0 }
+listedFor (refusedAt n i) = record { status = n; length = 0; index = i }
 
 -- ---- flows
 

@@ -3,12 +3,15 @@ use Prim.Native.Nat.{ℕ}
 use mathlib.Core.Path.{_≡_}
 use mathlib.Core.List.{List}
 use lib.ListN.{length}
-use Rattle.pkt.specs.Answers.{Answer, mapped}
+use Rattle.pkt.specs.Answers.{Answer, ListAnswer, mapped, plainly}
 use Rattle.pkt.specs.Written.{leaves, Promise}
 use Rattle.ezpkt.specs.Build.{answerOf, packetOf}
 use Rattle.tcp4.specs.Tcp4.{Emit, sendAnswer, sentBytes}
 use Rattle.ezpkt.specs.Icmp4.{withFlow}
+use Rattle.ezpkt.specs.declared.ip4.Template.{Template}
 use Rattle.ezpkt.specs.declared.build.Request.{Request}
+use Rattle.pieces.specs.Fragments.{packetsOf, endsFrom, fragmentsAnswer}
+use Rattle.pieces.specs.declared.BlockRequest.{BlockRequest}
 use Rattle.pcap.specs.Answers.{recordAnswer}
 use Rattle.pcap.specs.Pcap.{recordBytes}
 use Rattle.tcp4.specs.declared.TcpFlow.{TcpFlow}
@@ -21,8 +24,9 @@ use Rattle.assembly.specs.View.{view, recordOf}
 use Rattle.assembly.specs.Answers.{replyOf, payloadAfter, mapAfter}
 use Rattle.assembly.specs.Calls.{capacity, mapBytes, openAnswer, takeAnswer}
 use Rattle.assembly.specs.declared.Key.{Key}
-use Rattle.wispbundle.specs.Answers.{lengthFor, tcpFor, icmpFor, recOf, openedFor, takenFor}
+use Rattle.wispbundle.specs.Answers.{lengthFor, listedFor, tcpFor, icmpFor, recOf, openedFor, takenFor}
 use Rattle.wispbundle.specs.declared.lengths.«wb_length».{«wb_length»}
+use Rattle.wispbundle.specs.declared.building.«wb_listed».{«wb_listed»}
 use Rattle.wispbundle.specs.declared.tcp.«wb_tcp_sent».{«wb_tcp_sent»}
 use Rattle.wispbundle.specs.declared.icmp.«wb_icmp_sent».{«wb_icmp_sent»}
 use Rattle.wispbundle.specs.declared.assembling.«wb_assembly».{«wb_assembly»}
@@ -40,6 +44,12 @@ Writes a b o r o′ = Given (lengthFor a) (leaves a b o) r o′
 -- the packet that a request and its payload p are, into the buffer o
 abbrev pub Builds : Request → List ℕ → List ℕ → «wb_length» → List ℕ → Type 0
 Builds q p o r o′ = Writes (answerOf q (length p) (length o)) (packetOf q p) o r o′
+
+-- the packets of a list of requests under the template t, end to end into the buffer o, and their ends into e
+abbrev pub Cuts : Template → List BlockRequest → List ℕ → List ℕ → List ℕ → «wb_listed» → List ℕ → List ℕ → Type 0
+Cuts t rs p o e r o′ e′ =
+    let a : ListAnswer ℕ = fragmentsAnswer rs (length p) (length o) (length e) in
+    Promise {B = List ℕ × List ℕ} (λ (c : «wb_listed»). c) (listedFor a) (leaves (plainly a) (packetsOf t rs p) o, leaves (plainly a) (endsFrom (length p) 0 rs) e) r (o′, e′)
 
 -- a record of the packet d, taken at sec and usec, into the buffer o
 abbrev pub Records : ℕ → ℕ → List ℕ → List ℕ → «wb_length» → List ℕ → Type 0

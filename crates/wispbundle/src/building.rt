@@ -9,10 +9,15 @@ use ezpkt::build::TcpSegment;
 use ezpkt::build::UdpDatagram;
 use ezpkt::ip4;
 use ezpkt::ip4::Template;
+use pieces::BlockRequest;
+use pieces::Pieces;
+ghost use mathlib.Core.Path.{_≡_};
 ghost use lib.ListN.{length};
 ghost use Rattle.ezpkt.specs.Ip4.{fragmentOf, tailOf, datagramOf};
 ghost use Rattle.ezpkt.specs.declared.build.Request.the-variants.{Tcp, Udp, Echo, Piece};
-ghost use Rattle.wispbundle.specs.Calls.{Builds};
+ghost use Rattle.pieces.specs.Fragments.{piecesSays};
+ghost use Rattle.wispbundle.specs.Answers.{listedFor};
+ghost use Rattle.wispbundle.specs.Calls.{Builds, Cuts};
 
 #[no_mangle]
 pub extern "C" fn wb_build_tcp(segment: TcpSegment, payload: &[u8], out: &mut [u8]) -> wb_length
@@ -67,4 +72,47 @@ pub extern "C" fn wb_datagram(template: Template, payload: &[u8], out: &mut [u8]
     ensures { λ r. ⌜ Builds (datagramOf template (length (now (payload .entry)))) (now (payload .entry)) (now (out .entry)) r (now (out .exit)) ⌝ }
 {
     lengths::built(ip4::datagram(template, payload, out))
+}
+
+// How many bytes were written for a list, or the refusal, with the index of the first of the list that it is for where it is for one.
+#[repr(C)]
+pub struct wb_listed {
+    pub status: u8,
+    pub length: usize,
+    pub index: usize,
+}
+
+fn listed(answer: Pieces) -> wb_listed
+    ensures { λ r. ⌜ r ≡ listedFor (piecesSays answer) ⌝ }
+{
+    match answer {
+        Pieces::Written(length) => wb_listed {
+            status: crate::ACCEPTED,
+            length,
+            index: 0,
+        },
+        Pieces::Refused(status) => wb_listed {
+            status,
+            length: 0,
+            index: 0,
+        },
+        Pieces::RefusedAt(status, index) => wb_listed {
+            status,
+            length: 0,
+            index,
+        },
+    }
+}
+
+#[no_mangle]
+pub extern "C" fn wb_fragments(
+    template: Template,
+    payload: &[u8],
+    list: &[BlockRequest],
+    out: &mut [u8],
+    ends: &mut [usize],
+) -> wb_listed
+    ensures { λ r. ⌜ Cuts template (now (list .entry)) (now (payload .entry)) (now (out .entry)) (now (ends .entry)) r (now (out .exit)) (now (ends .exit)) ⌝ }
+{
+    listed(pieces::fragments(template, payload, list, out, ends))
 }

@@ -9,6 +9,7 @@ mod building;
 mod checking;
 mod damage;
 mod icmp;
+mod lists;
 mod model;
 mod pieces;
 mod records;
@@ -31,12 +32,13 @@ use wispbundle::version;
 const SEED: u64 = 0x7769_7370;
 const CALLS: u64 = 1_000_000;
 
-const KINDS: [fn(&mut Run) -> Compared; 16] = [
+const KINDS: [fn(&mut Run) -> Compared; 17] = [
     sums::compare,
     building::tcp,
     building::icmp,
     pieces::compare,
     pieces::compare,
+    lists::compare,
     udp::compare,
     udp::compare,
     icmp::compare,

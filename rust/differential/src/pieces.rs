@@ -21,7 +21,7 @@ pub fn draw(rng: &mut Rng) -> Template {
 }
 
 /// The template as a header, in which MF, total length and checksum are drawn and do not count.
-fn header(rng: &mut Rng, t: &Template) -> ip_hdr {
+pub fn header(rng: &mut Rng, t: &Template) -> ip_hdr {
     let mut h = ip_hdr {
         tos: t.tos,
         ..Default::default()
@@ -34,12 +34,20 @@ fn header(rng: &mut Rng, t: &Template) -> ip_hdr {
 }
 
 /// An offset that is mostly within the payload, and at times past it or above 8,191.
-fn offset(rng: &mut Rng, size: usize) -> u16 {
+pub fn offset(rng: &mut Rng, size: usize) -> u16 {
     match rng.below(32) {
         0 => rng.u16(),
         1 => rng.pick(&[8189, 8190, 8191, 8192]),
         2 => (size / 8 + rng.below(4)) as u16,
         _ => rng.below(size / 8 + 1) as u16,
+    }
+}
+
+/// A length that is mostly within the payload.
+pub fn blocks(rng: &mut Rng, size: usize) -> u16 {
+    match rng.below(16) {
+        0 => rng.u16(),
+        _ => rng.below(size / 8 + 3) as u16,
     }
 }
 
@@ -49,10 +57,7 @@ pub fn compare(run: &mut Run) -> Compared {
     let template = draw(&mut run.rng);
     let rust = IpFrag::new(header(&mut run.rng, &template), payload.to_vec());
     let off = offset(&mut run.rng, size);
-    let len = match run.rng.below(16) {
-        0 => run.rng.u16(),
-        _ => run.rng.below(size / 8 + 3) as u16,
-    };
+    let len = blocks(&mut run.rng, size);
     let kind = run.rng.below(4);
     let (off, packet) = match kind {
         0 | 1 => (off, rust.fragment(off, len, true)),

@@ -17,7 +17,7 @@ pub struct Run {
 }
 
 /// The byte at a place of a buffer before a call.
-fn pattern(at: usize) -> u8 {
+pub fn pattern(at: usize) -> u8 {
     (at.wrapping_mul(31) ^ 0xa5) as u8
 }
 
@@ -57,6 +57,17 @@ impl Run {
         expected: Result<T, Refusal>,
     ) -> Compared {
         let status = got.as_ref().map_or_else(|refusal| refusal.number(), |_| 0);
+        self.answered(name, status, got, expected)
+    }
+
+    /// Counts a call by its status, and compares what it answered.
+    pub fn answered<T: PartialEq + Debug>(
+        &mut self,
+        name: &'static str,
+        status: u8,
+        got: T,
+        expected: T,
+    ) -> Compared {
         self.called(name, status);
         match got == expected {
             true => Ok(()),
@@ -64,7 +75,7 @@ impl Run {
         }
     }
 
-    /// Room for `n` bytes: often just enough, at times too little, mostly more.
+    /// Room for `n` bytes or places: often just enough, at times too little, mostly more.
     pub fn room(&mut self, n: usize) -> usize {
         match self.rng.below(16) {
             0 | 1 => n.saturating_sub(1),

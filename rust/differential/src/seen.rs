@@ -7,7 +7,7 @@ const HEADER: &str = include_str!("../../../include/wispbundle.h");
 
 /// The calls in the header's order, and the numbers that each can give. A call that takes no payload
 /// is never refused by 1, and one that takes no offset never by 2.
-const NUMBERS: [(&str, &[u8]); 41] = [
+const NUMBERS: [(&str, &[u8]); 42] = [
     ("wb_version", &[]),
     ("wb_ip_csum", &[1]),
     ("wb_build_tcp", &[1, 3]),
@@ -17,6 +17,7 @@ const NUMBERS: [(&str, &[u8]); 41] = [
     ("wb_fragment", &[1, 2, 3]),
     ("wb_tail", &[1, 2, 3]),
     ("wb_datagram", &[1, 3]),
+    ("wb_fragments", &[1, 2, 3]),
     ("wb_tcp_new", &[]),
     ("wb_tcp_open", &[3]),
     ("wb_tcp_client_close", &[3]),

@@ -44,6 +44,9 @@ structs! {
         daddr: u32,
     }
     IpPiece { template: Template, off: u16, len: u16 }
+    /// One piece of a list: `len` blocks of 8 bytes of the payload, from block `off` on.
+    BlockRequest { off: u16, len: u16 }
+    Listed { status: u8, length: usize, index: usize }
     Addr { ip: u32, port: u16 }
     TcpFlow { cl: Addr, sv: Addr, cl_seq: u32, sv_seq: u32 }
     TcpSent { status: u8, flow: TcpFlow, first: usize, second: usize, third: usize }

@@ -1,0 +1,8 @@
+pub mod Again
+pub mod Answering
+pub mod OneByOne
+pub mod Only
+pub mod Putting
+pub mod Surveyed
+pub mod Turns
+pub mod Walking

@@ -1,0 +1,3 @@
+pub mod Fragments
+pub mod Survey
+pub mod OneByOne
