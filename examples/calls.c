@@ -152,7 +152,7 @@ static void icmp_sent(wb_icmp_sent r)
 /* the record, and the first bytes of both buffers */
 static void record(wb_assembly a)
 {
-    printf(", %08x to %08x, %u: ", a.key.saddr, a.key.daddr, a.key.id);
+    printf(", %08x to %08x, %u, protocol %u: ", a.key.saddr, a.key.daddr, a.key.id, a.key.protocol);
     printf("%s, total %zu, floor %zu%s", a.known ? "known" : "unknown", a.total, a.floor, a.spoilt ? ", spoilt" : "");
     bytes(payload, 20);
     printf("    map %02x\n", map[0]);
@@ -387,17 +387,21 @@ static void writing(void)
 
 static void assembling(void)
 {
-    wb_key key = {.saddr = cl.ip, .daddr = sv.ip, .id = 7};
-    uint8_t first[36], last[24], past[20];
+    wb_key key = {.saddr = cl.ip, .daddr = sv.ip, .id = 7, .protocol = WB_PROTOCOL_UDP};
+    wb_template other = template_;
+    other.protocol = WB_PROTOCOL_ICMP;
+    uint8_t first[36], last[24], past[20], ping[24];
     wb_fragment(template_, twenty, 20, 0, 2, first, sizeof first);
     wb_tail(template_, twenty, 20, 2, last, sizeof last);
     wb_fragment(template_, twenty, 20, 3, 1, past, sizeof past);
+    wb_tail(other, twenty, 20, 2, ping, sizeof ping);
     memset(payload, 1, sizeof payload);
     memset(map, 1, sizeof map);
     MAKE(opened, wb_assembly_open(key, payload, sizeof payload - 1, map, sizeof map));
     wb_assembly a = MAKE(opened, wb_assembly_open(key, payload, sizeof payload, map, sizeof map));
     a = MAKE(taken, wb_assembly_take(a, first, 36, payload, sizeof payload, map, sizeof map));
     a = MAKE(taken, wb_assembly_take(a, with(30, 'p', '!'), 32, payload, sizeof payload, map, sizeof map));
+    a = MAKE(taken, wb_assembly_take(a, ping, 24, payload, sizeof payload, map, sizeof map));
     MAKE(progress, wb_assembly_progress(a, payload, sizeof payload, map, sizeof map));
     a = MAKE(taken, wb_assembly_take(a, last, 24, payload, sizeof payload, map, sizeof map));
     MAKE(progress, wb_assembly_progress(a, payload, sizeof payload, map, sizeof map));

@@ -48,7 +48,7 @@ static size_t put_together(void)
 {
     static const int order[PIECES] = {2, 0, 1};
     static const char *const says[] = {[WB_WAITING] = "waiting", [WB_COMPLETE] = "complete", [WB_SPOILT] = "spoilt"};
-    wb_key key = {.saddr = car.saddr, .daddr = car.daddr, .id = car.id};
+    wb_key key = {.saddr = car.saddr, .daddr = car.daddr, .id = car.id, .protocol = car.protocol};
     wb_opened opened = wb_assembly_open(key, payload, sizeof payload, map, sizeof map);
     accept("open", opened.status);
     wb_assembly assembly = opened.assembly;

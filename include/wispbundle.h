@@ -38,7 +38,7 @@ extern "C" {
 
 /* ---- the version: another number after each change of a struct or a call, also where every size stays. The header is
  * the archive's exactly if wb_version answers WB_VERSION. */
-#define WB_VERSION 3
+#define WB_VERSION 4
 
 uint32_t wb_version(void);
 
@@ -53,7 +53,7 @@ enum {
     WB_NOT_IPV4 = 5,        /* first byte is not 0x45 */
     WB_BAD_TOTAL = 6,       /* total length below 20 */
     WB_BAD_HEADER = 7,      /* IPv4 header checksum does not verify */
-    WB_WRONG_KEY = 8,       /* key differs from the assembly's */
+    WB_WRONG_KEY = 8,       /* key differs from the assembly's: source, destination, identification or protocol */
     WB_NOT_BLOCKS = 9,      /* MF set and data length no multiple of 8 */
     WB_TOO_FAR = 10,        /* a piece ends above 65,515 */
     WB_BAD_ASSEMBLY = 11,   /* buffer sizes wrong, or total above 65,515 or floor above 65,513 */
@@ -354,10 +354,13 @@ wb_checked wb_check(const uint8_t *packet, size_t packet_len);
 
 enum { WB_PAYLOAD_BYTES = 65515, WB_MAP_BYTES = 1024 };
 
+/* What the pieces of one datagram have in common: the four fields that RFC 791 names. protocol is any number. Pieces
+ * that differ in it alone are of two datagrams, and the assembly of either refuses the other's by 8. */
 typedef struct {
     uint32_t saddr;
     uint32_t daddr;
     uint16_t id;
+    uint8_t protocol;
 } wb_key;
 
 /* total is how many bytes the datagram's IPv4 payload has. Where known is false, it does not count, and a call that is
@@ -560,6 +563,7 @@ WB_SIZE(wb_key, 12);
 WB_AT(wb_key, saddr, 0);
 WB_AT(wb_key, daddr, 4);
 WB_AT(wb_key, id, 8);
+WB_AT(wb_key, protocol, 10);
 
 WB_SIZE(wb_assembly, 40);
 WB_AT(wb_assembly, key, 0);

@@ -248,6 +248,7 @@ impl Assembly {
             saddr: TEMPLATE.saddr,
             daddr: TEMPLATE.daddr,
             id: TEMPLATE.id,
+            protocol: TEMPLATE.protocol,
         };
         let record = sys::Assembly {
             key,

@@ -9,12 +9,15 @@ pub const PAYLOAD_BYTES: usize = 65_515;
 /// The size of an assembly's map.
 pub const MAP_BYTES: usize = 1024;
 
-/// What the pieces of one datagram have in common.
+/// What the pieces of one datagram have in common: the four fields that RFC 791 names. Pieces that
+/// differ in the protocol alone are of two datagrams, and the assembly of either refuses the other's
+/// by 8.
 #[derive(Copy, Clone, Debug, PartialEq, Eq, Hash)]
 pub struct Key {
     pub src: Ipv4Addr,
     pub dst: Ipv4Addr,
     pub id: u16,
+    pub protocol: u8,
 }
 
 /// What an assembly knows beside its two buffers.
@@ -58,6 +61,7 @@ impl Key {
             src: Ipv4Addr::from(key.saddr),
             dst: Ipv4Addr::from(key.daddr),
             id: key.id,
+            protocol: key.protocol,
         }
     }
 
@@ -66,6 +70,7 @@ impl Key {
             saddr: u32::from(self.src),
             daddr: u32::from(self.dst),
             id: self.id,
+            protocol: self.protocol,
         }
     }
 }
@@ -108,9 +113,10 @@ impl Outcome {
 /// ```
 /// use wispbundle::{Assembly, Key, Outcome, Template};
 ///
-/// let template = Template { id: 7, ..Template::new([10, 0, 0, 1].into(), [10, 0, 0, 2].into()) };
+/// let (src, dst) = ([10, 0, 0, 1].into(), [10, 0, 0, 2].into());
+/// let template = Template { id: 7, protocol: 17, ..Template::new(src, dst) };
 /// let (mut payload, mut map) = ([0; wispbundle::PAYLOAD_BYTES], [0; wispbundle::MAP_BYTES]);
-/// let key = Key { src: template.src, dst: template.dst, id: 7 };
+/// let key = Key { src, dst, id: 7, protocol: 17 };
 /// let mut assembly = Assembly::open(key, &mut payload, &mut map).unwrap();
 /// let mut out = [0; 40];
 ///

@@ -20,7 +20,7 @@
 //!
 //! let template = Template { id: 7, protocol: 17, ..Template::new(*car.ip(), *pit.ip()) };
 //! let (mut payload, mut map) = (vec![0; PAYLOAD_BYTES], vec![0; MAP_BYTES]);
-//! let key = Key { src: *car.ip(), dst: *pit.ip(), id: 7 };
+//! let key = Key { src: *car.ip(), dst: *pit.ip(), id: 7, protocol: 17 };
 //! let mut assembly = Assembly::open(key, &mut payload, &mut map)?;
 //! let mut piece = [0; 1500];
 //! for off in [370, 185, 0] {

@@ -3,9 +3,12 @@
 mod common;
 use common::*;
 use wispbundle::{
-    Assembly, Good, MAP_BYTES, Outcome, PAYLOAD_BYTES, Progress, Record, Refusal, UdpDatagram,
-    check,
+    Assembly, Echo, Good, IcmpPacket, Key, MAP_BYTES, Outcome, PAYLOAD_BYTES, Progress, Record,
+    Refusal, Template, UdpDatagram, check,
 };
+
+const ICMP: u8 = 1;
+const UDP: u8 = 17;
 
 const ORDERS: [[usize; 3]; 6] = [
     [0, 1, 2],
@@ -29,7 +32,19 @@ fn buffers() -> Buffers {
 }
 
 fn open(b: &mut Buffers) -> Assembly<'_> {
-    Assembly::open(KEY, &mut b.payload, &mut b.map).unwrap()
+    open_for(KEY.protocol, b)
+}
+
+fn open_for(protocol: u8, b: &mut Buffers) -> Assembly<'_> {
+    let key = Key { protocol, ..KEY };
+    Assembly::open(key, &mut b.payload, &mut b.map).unwrap()
+}
+
+fn template_for(protocol: u8) -> Template {
+    Template {
+        protocol,
+        ..template()
+    }
 }
 
 fn fragment(payload: &[u8], off: u16, len: u16) -> Vec<u8> {
@@ -192,6 +207,7 @@ fn each_refusal_leaves_all_as_it_was() {
         (changed(piece.clone(), &[(5, 8)]), Refusal::WrongKey),
         (changed(piece.clone(), &[(12, 11)]), Refusal::WrongKey),
         (changed(piece.clone(), &[(19, 3)]), Refusal::WrongKey),
+        (changed(piece.clone(), &[(9, ICMP)]), Refusal::WrongKey),
         (changed(piece.clone(), &[(3, 35)]), Refusal::NotBlocks),
         (
             changed(piece.clone(), &[(6, 0x1f), (7, 0xff)]),
@@ -211,6 +227,117 @@ fn each_refusal_leaves_all_as_it_was() {
         assert_eq!(assembly.take(&packet), Err(why));
         assert_eq!((assembly.record(), assembly.held()), (record, None));
         assert!(assembly.payload() == payload && assembly.map() == map);
+    }
+}
+
+#[test]
+fn a_piece_of_any_other_protocol_is_refused() {
+    let (payload, mut b) = (counted(24), buffers());
+    for protocol in [UDP, ICMP, 0, 255] {
+        let mut assembly = open_for(protocol, &mut b);
+        assert_eq!(assembly.record().key, Key { protocol, ..KEY });
+        for other in (0..=255).filter(|&other| other != protocol) {
+            let whole = written(|out| template_for(other).datagram(&payload, out));
+            assert_eq!(assembly.take(&whole), Err(Refusal::WrongKey));
+        }
+        assert_eq!(assembly.progress(), Ok(Progress::Waiting));
+        assert_eq!(assembly.map(), [0; MAP_BYTES]);
+        let whole = written(|out| template_for(protocol).datagram(&payload, out));
+        assert_eq!(assembly.take(&whole), Ok(Outcome::Complete));
+    }
+}
+
+#[test]
+fn another_protocol_is_refused_behind_7_and_before_9_and_10() {
+    let piece = fragment(&counted(24), 0, 2);
+    let other = changed(piece.clone(), &[(9, ICMP)]);
+    let (blocks, far) = ([(3, 35)], [(6, 0x1f), (7, 0xff)]);
+    let mut unsummed = other.clone();
+    unsummed[11] ^= 1;
+    let mut b = buffers();
+    let mut assembly = open(&mut b);
+    for (packet, why) in [
+        (unsummed, Refusal::BadHeader),
+        (changed(other.clone(), &blocks), Refusal::WrongKey),
+        (changed(piece.clone(), &blocks), Refusal::NotBlocks),
+        (changed(other, &far), Refusal::WrongKey),
+        (changed(piece, &far), Refusal::TooFar),
+    ] {
+        assert_eq!(assembly.take(&packet), Err(why));
+    }
+}
+
+/// A datagram's IPv4 payload, and the three pieces that it is cut into.
+struct Sent {
+    protocol: u8,
+    payload: Vec<u8>,
+    pieces: [Vec<u8>; 3],
+}
+
+fn sent(protocol: u8, packet: &[u8]) -> Sent {
+    let payload = packet[20..].to_vec();
+    let piece = |off| written(|out| template_for(protocol).fragment(&payload, off, 185, out));
+    Sent {
+        protocol,
+        pieces: [0, 185, 370].map(piece),
+        payload,
+    }
+}
+
+fn ping() -> Sent {
+    let echo = IcmpPacket {
+        src: CLIENT,
+        dst: SERVER,
+        echo: Echo::Request,
+        seq: 0,
+    };
+    sent(ICMP, &written(|out| echo.build(&[0x70; 3000], out)))
+}
+
+fn telemetry() -> Sent {
+    let udp = UdpDatagram {
+        csum: true,
+        ..UdpDatagram::new(CL, SV)
+    };
+    sent(UDP, &written(|out| udp.build(&counted(3480), out)))
+}
+
+/// Takes a piece that is another datagram's: 8, and all stays as it was.
+fn refuses(assembly: &mut Assembly, piece: &[u8]) {
+    let (record, progress) = (assembly.record(), assembly.progress());
+    let (payload, map) = (assembly.payload().to_vec(), assembly.map().to_vec());
+    assert_eq!(assembly.take(piece), Err(Refusal::WrongKey));
+    assert_eq!((assembly.record(), assembly.progress()), (record, progress));
+    assert!(assembly.payload() == payload && assembly.map() == map);
+}
+
+#[test]
+fn a_ping_and_a_telemetry_datagram_of_one_identification() {
+    let both = [ping(), telemetry()];
+    for order in [
+        [(0, 0), (1, 0), (0, 1), (1, 1), (0, 2), (1, 2)],
+        [(1, 2), (0, 1), (0, 2), (1, 0), (0, 0), (1, 1)],
+    ] {
+        let [mut b, mut c] = [buffers(), buffers()];
+        let mut assemblies = [open_for(ICMP, &mut b), open_for(UDP, &mut c)];
+        let mut missing = [3, 3];
+        for (which, nth) in order {
+            let piece = &both[which].pieces[nth];
+            refuses(&mut assemblies[1 - which], piece);
+            missing[which] -= 1;
+            let outcome = match missing[which] {
+                0 => Outcome::Complete,
+                _ => Outcome::Waiting,
+            };
+            assert_eq!(assemblies[which].take(piece), Ok(outcome));
+        }
+        for (own, assembly) in both.iter().zip(&assemblies) {
+            assert!(!assembly.record().spoilt);
+            assert_eq!(assembly.held(), Some(&own.payload[..]));
+            let held = assembly.held().unwrap();
+            let whole = written(|out| template_for(own.protocol).datagram(held, out));
+            assert_eq!(check(&whole), Ok(Good::Checked));
+        }
     }
 }
 

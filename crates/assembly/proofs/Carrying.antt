@@ -6,7 +6,7 @@ use Prim.Native.Nat.{ℕ, _+_, _-_, _*_, _%_, _≤_}
 use native.Mathlib.Omega.{arith}
 use lib.ListN.{length, take}
 use lib.Dec.{ltb, eqb}
-use borrow.Author.Tests.{ltb-true, ltb-false, lt-ltb, le-ltb, eqb-true, eq-eqb, not-false}
+use borrow.Author.Tests.{ltb-true, ltb-false, lt-ltb, le-ltb, eqb-true, eq-eqb, ne-eqb, not-false}
 use Rattle.pkt.specs.Answers.{Answer, refused, gives, andThen, mapped}
 use Rattle.inspect.specs.Header.{lengthField, readAnswer, dataOf}
 use Rattle.inspect.specs.declared.header.IpRead.{IpRead}
@@ -109,10 +109,34 @@ acceptable C k l p e = go (headAnswer k l) e
     go (gives h) q = behind h (fitAnswer C 10 (length (dataOf h l)) h) refl q
 
 -- ---- equal keys
+
+-- two keys differ in the first field that differs
+pub source-differs : (a b : Key) → (a .saddr ≡ b .saddr → ⊥) → false ≡ sameKey a b
+unfolding sameKey
+source-differs a b s = simp (ne-eqb _ _ s)
+
+pub destination-differs : (a b : Key) → a .saddr ≡ b .saddr → (a .daddr ≡ b .daddr → ⊥) → false ≡ sameKey a b
+unfolding sameKey
+destination-differs a b s d = simp (eq-eqb _ _ s, ne-eqb _ _ d)
+
+pub identification-differs : (a b : Key) → a .saddr ≡ b .saddr → a .daddr ≡ b .daddr → (a .id ≡ b .id → ⊥) → false ≡ sameKey a b
+unfolding sameKey
+identification-differs a b s d i = simp (eq-eqb _ _ s, eq-eqb _ _ d, ne-eqb _ _ i)
+
+-- and where the other three are the same, the protocol tells
+pub by-protocol : (a b : Key) → a .saddr ≡ b .saddr → a .daddr ≡ b .daddr → a .id ≡ b .id → eqb (a .protocol) (b .protocol) ≡ sameKey a b
+unfolding sameKey
+by-protocol a b s d i = simp (eq-eqb _ _ s, eq-eqb _ _ d, eq-eqb _ _ i)
+
 pub is-same : (a b : Key) → a ≡ b → sameKey a b ≡ true
 unfolding sameKey
 is-same a b e =
-    simp (eq-eqb (a .saddr) (b .saddr) (ap (λ (k : Key). k .saddr) e), eq-eqb (a .daddr) (b .daddr) (ap (λ (k : Key). k .daddr) e), eq-eqb (a .id) (b .id) (ap (λ (k : Key). k .id) e))
+    simp (
+      eq-eqb (a .saddr) (b .saddr) (ap (λ (k : Key). k .saddr) e),
+      eq-eqb (a .daddr) (b .daddr) (ap (λ (k : Key). k .daddr) e),
+      eq-eqb (a .id) (b .id) (ap (λ (k : Key). k .id) e),
+      eq-eqb (a .protocol) (b .protocol) (ap (λ (k : Key). k .protocol) e),
+    )
 
 -- A packet whose header is read, has the key, and is neither refused by 9 nor by 10, is accepted.
 pub accepted : (C : ℕ) (k : Key) (l : List ℕ) (h : IpRead) → readAnswer l ≡ gives h → keyOf h ≡ k → Acceptable C (pieceOf l h)

@@ -11,12 +11,12 @@ use Rattle.assembly.specs.declared.Key.{Key}
 use Rattle.assembly.specs.Piece.{Piece}
 use Rattle.assembly.specs.View.{piece}
 
--- "a key: source, destination and identification"
+-- Document 02, T-02: "RFC 791 names four fields: identification, source, destination and protocol."
 abbrev pub keyOf : IpRead → Key
-keyOf h = record { saddr = h .saddr; daddr = h .daddr; id = h .id }
+keyOf h = record { saddr = h .saddr; daddr = h .daddr; id = h .id; protocol = h .protocol }
 
 unfoldable pub sameKey : Key → Key → Bool
-sameKey a b = (eqb (a .saddr) (b .saddr) && eqb (a .daddr) (b .daddr)) && eqb (a .id) (b .id)
+sameKey a b = ((eqb (a .saddr) (b .saddr) && eqb (a .daddr) (b .daddr)) && eqb (a .id) (b .id)) && eqb (a .protocol) (b .protocol)
 
 -- "The data part that starts behind the header"; "Bytes after the total length are ignored"
 abbrev pub pieceOf : List ℕ → IpRead → Piece
@@ -30,7 +30,7 @@ broken mf n = mf && not (eqb (n % 8) 0)
 unfoldable pub fitAnswer : ℕ → ℕ → ℕ → IpRead → Answer IpRead
 fitAnswer C far n h = cond (broken (h .mf) n) (refused 9) (cond (ltb C (8 * h .off + n)) (refused far) (gives h))
 
--- 8: "key differs from the assembly's"
+-- 8: "key differs from the assembly's", "also for another protocol"
 unfoldable pub keyedAnswer : Key → IpRead → Answer IpRead
 keyedAnswer k h = cond (sameKey (keyOf h) k) (gives h) (refused 8)
 

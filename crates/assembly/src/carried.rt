@@ -18,6 +18,7 @@ pub fn key_of(h: IpRead) -> Key
         saddr: h.saddr,
         daddr: h.daddr,
         id: h.id,
+        protocol: h.protocol,
     }
 }
 
@@ -30,7 +31,10 @@ pub fn same_key(a: Key, b: Key) -> bool
     if a.daddr != b.daddr {
         return false;
     }
-    a.id == b.id
+    if a.id != b.id {
+        return false;
+    }
+    a.protocol == b.protocol
 }
 
 // Whether more pieces follow n bytes that are no whole number of blocks.

@@ -21,12 +21,13 @@ const CAPACITY: usize = limit::IP_PAYLOAD;
 
 const MAP_BYTES: usize = 1024;
 
-// "source, destination and identification"
+// "identification, source, destination and protocol"
 #[repr(C)]
 pub struct Key {
     pub saddr: u32,
     pub daddr: u32,
     pub id: u16,
+    pub protocol: u8,
 }
 
 pub enum Total {

@@ -6,10 +6,13 @@ use assembly::Rec;
 use assembly::Taken;
 use assembly::Total;
 use ezpkt::build;
+use ezpkt::build::IcmpEcho;
 use ezpkt::build::Request;
 use ezpkt::build::TcpSegment;
+use ezpkt::build::UdpDatagram;
 use ezpkt::ip4;
 use ezpkt::ip4::Template;
+use ezpkt::part;
 use libc::STDOUT_FILENO;
 
 const CLIENT: u32 = 0x0a000001;
@@ -59,25 +62,35 @@ fn say_held(progress: Progress, payload: &[u8]) {
     }
 }
 
-fn key() -> Key {
+fn key_of(protocol: u8) -> Key {
     Key {
         saddr: CLIENT,
         daddr: SERVER,
         id: 0,
+        protocol,
     }
 }
 
-fn template() -> Template {
+// That of the segments.
+fn key() -> Key {
+    key_of(6)
+}
+
+fn template_of(protocol: u8) -> Template {
     Template {
         tos: 0,
         id: 0,
         df: false,
         evil: false,
         ttl: 64,
-        protocol: 17,
+        protocol,
         saddr: CLIENT,
         daddr: SERVER,
     }
+}
+
+fn template() -> Template {
+    template_of(6)
 }
 
 // Builds piece (off, 1) of twenty bytes and hands it in, with what stands behind it in its buffer.
@@ -224,9 +237,16 @@ fn sent(saddr: u32, frag_off: u16) {
     first(&out);
 }
 
+fn other_protocol() {
+    let out = lap();
+    first(&out);
+}
+
 fn pieces() {
     say(b"another source:");
     sent(SERVER, 0);
+    say(b"another protocol:");
+    other_protocol();
     say(b"21 bytes with MF set:");
     sent(CLIENT, 0x2000);
     say(b"21 bytes at block 8,187:");
@@ -235,6 +255,93 @@ fn pieces() {
     sent(CLIENT, 8186);
     say(b"21 bytes with DF and the reserved bit set:");
     sent(CLIENT, 0xc000);
+}
+
+// A ping and a telemetry datagram, of 52 bytes each, with identification 0 between the same hosts.
+fn ping() -> [u8; 52] {
+    let request = Request::Echo(IcmpEcho {
+        saddr: CLIENT,
+        daddr: SERVER,
+        reply: false,
+        seq: 0,
+    });
+    let mut out = [0u8; 52];
+    build::build(request, b"a ping between two hosts", &mut out);
+    out
+}
+
+fn lap() -> [u8; 52] {
+    let request = Request::Udp(UdpDatagram {
+        saddr: CLIENT,
+        daddr: SERVER,
+        sport: 40000,
+        dport: 80,
+        frag_off: 0,
+        csum: true,
+    });
+    let mut out = [0u8; 52];
+    build::build(request, b"a lap between two points", &mut out);
+    out
+}
+
+fn datagram(protocol: u8) -> [u8; 52] {
+    if protocol == 1 {
+        return ping();
+    }
+    lap()
+}
+
+// Two blocks of the IPv4 payload of the ping (1) or the telemetry datagram (17).
+fn piece_of(protocol: u8, off: u16) -> [u8; 36] {
+    let whole = datagram(protocol);
+    let mut out = [0u8; 36];
+    ip4::fragment(
+        template_of(protocol),
+        part::back(&whole, 20),
+        off,
+        2,
+        &mut out,
+    );
+    out
+}
+
+fn hand_piece(rec: Rec, protocol: u8, off: u16, payload: &mut [u8], map: &mut [u8]) -> Rec {
+    let out = piece_of(protocol, off);
+    let taken = assembly::take(rec, &out, payload, map);
+    say_taken(taken);
+    kept(rec, taken)
+}
+
+// What a complete datagram carries behind its 8 bytes of header.
+fn say_data(progress: Progress, payload: &[u8]) {
+    if let Progress::Complete(n) = progress {
+        say(b", holds ");
+        say(part::back(part::front(payload, n), 8));
+    }
+}
+
+// The pieces of both datagrams, mixed, for the assembly of one protocol.
+fn mixed(protocol: u8) {
+    let mut payload = [0u8; 65515];
+    let mut map = [0u8; 1024];
+    match assembly::open(key_of(protocol), &mut payload, &mut map) {
+        Opened::Refused(number) => say_refused(number),
+        Opened::Open(rec) => {
+            let one = hand_piece(rec, 1, 0, &mut payload, &mut map);
+            let two = hand_piece(one, 17, 2, &mut payload, &mut map);
+            let three = hand_piece(two, 17, 0, &mut payload, &mut map);
+            let four = hand_piece(three, 1, 2, &mut payload, &mut map);
+            say_data(assembly::progress(four, &payload, &map), &payload);
+        }
+    }
+    say(b"\n");
+}
+
+fn both() {
+    say(b"a ping and a lap with one identification, to the ping's assembly:");
+    mixed(1);
+    say(b"to the lap's assembly:");
+    mixed(17);
 }
 
 fn main() {
@@ -247,4 +354,5 @@ fn main() {
     total_length();
     time_to_live();
     pieces();
+    both();
 }

@@ -114,7 +114,7 @@ assemblyFor r =
 
 abbrev pub noAssembly : «wb_assembly»
 noAssembly =
-    record { key = record { saddr = 0; daddr = 0; id = 0 }; known = false; total = 0; floor = 0; spoilt = false }
+    record { key = record { saddr = 0; daddr = 0; id = 0; protocol = 0 }; known = false; total = 0; floor = 0; spoilt = false }
 
 abbrev pub openedFor : Answer Rec → «wb_opened»
 openedFor (gives r) = record { status = 0; assembly = assemblyFor r }

@@ -113,6 +113,7 @@ fn nothing() -> wb_assembly
             saddr: 0,
             daddr: 0,
             id: 0,
+            protocol: 0,
         },
         known: false,
         total: 0,

@@ -1,6 +1,7 @@
-//! Document 01's check and assembly, written anew and in another way: bytes and whole pieces, no
-//! blocks tested and no floor.
+//! Document 01's check and assembly, the latter with document 02's key, written anew and in another
+//! way: bytes and whole pieces, no blocks tested and no floor.
 
+use std::net::Ipv4Addr;
 use wispbundle::{Good, Key, MAP_BYTES, Outcome, PAYLOAD_BYTES, Progress, Record, Refusal};
 
 fn be16(bytes: &[u8], at: usize) -> usize {
@@ -57,6 +58,17 @@ pub fn check(packet: &[u8]) -> Result<Good, Refusal> {
     }
 }
 
+/// What a header names as its datagram.
+pub fn key_of(packet: &[u8]) -> Key {
+    let addr = |at| Ipv4Addr::new(packet[at], packet[at + 1], packet[at + 2], packet[at + 3]);
+    Key {
+        src: addr(12),
+        dst: addr(16),
+        id: be16(packet, 4) as u16,
+        protocol: packet[9],
+    }
+}
+
 /// A piece that was accepted.
 pub struct Piece {
     pub start: usize,
@@ -73,16 +85,13 @@ impl Piece {
     pub fn read(key: Key, packet: &[u8]) -> Result<Self, Refusal> {
         let packet = read(packet)?;
         let field = be16(packet, 6);
-        let named = [&key.src.octets()[..], &key.dst.octets()].concat();
         let piece = Self {
             start: 8 * (field & 0x1fff),
             data: packet[20..].to_vec(),
             more: field & 0x2000 != 0,
         };
         match () {
-            _ if packet[12..20] != named || be16(packet, 4) != usize::from(key.id) => {
-                Err(Refusal::WrongKey)
-            }
+            _ if key_of(packet) != key => Err(Refusal::WrongKey),
             _ if piece.more && !piece.data.len().is_multiple_of(8) => Err(Refusal::NotBlocks),
             _ if piece.end() > PAYLOAD_BYTES => Err(Refusal::TooFar),
             _ => Ok(piece),

@@ -106,7 +106,7 @@ pub fn compare(run: &mut Run) -> Compared {
     for _ in 0..1 + run.rng.below(3) {
         let len = 1 + run.rng.below(40) as u16;
         let packet = taking::packet(&mut run.rng, &template, &payload, len, true);
-        taking::same(run, ours.take(&packet), model.take(&packet))?;
+        taking::takes(run, &mut ours, &packet, model.take(&packet))?;
         taking::same_state(&ours, model.record, &model.payload, &model.map)?;
         taking::same_progress(run, &ours, model.progress())?;
     }

@@ -1,5 +1,6 @@
 //! What a run must have seen to count: every call of the archive, carried out and refused by every
-//! number that document 01 gives it, and every answer that is no refusal.
+//! number that document 01 gives it, every answer that is no refusal, and a piece that was refused
+//! for its protocol alone.
 
 use crate::run::Run;
 
@@ -52,12 +53,13 @@ const NUMBERS: [(&str, &[u8]); 42] = [
     ("wb_hex_dump", &[3, 16]),
 ];
 
-const ANSWERS: [&str; 8] = [
+const ANSWERS: [&str; 9] = [
     "checked: good",
     "checked: good without checksum",
     "taken: waiting",
     "taken: complete",
     "taken: spoilt",
+    "refused by 8: for the protocol alone",
     "stands: waiting",
     "stands: complete",
     "stands: spoilt",

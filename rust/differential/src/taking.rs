@@ -24,9 +24,14 @@ fn piece(rng: &mut Rng, template: &Template, payload: &[u8], len: u16) -> Vec<u8
     out
 }
 
-/// What is taken: mostly a piece as it was cut, and else one with other bytes, or damaged.
+/// What is taken: mostly a piece as it was cut, and else one of another protocol, one with other
+/// bytes, or damaged.
 pub fn packet(rng: &mut Rng, template: &Template, payload: &[u8], len: u16, odd: bool) -> Vec<u8> {
-    let mut packet = piece(rng, template, payload, len);
+    let mut template = *template;
+    if rng.once_in(16) {
+        template.protocol ^= 1 << rng.below(8);
+    }
+    let mut packet = piece(rng, &template, payload, len);
     let last = packet.len() - 1;
     match rng.below(16) {
         0 if odd && last >= 20 => packet[last] ^= 1,
@@ -42,22 +47,36 @@ pub fn key(template: &Template) -> Key {
         src: template.src,
         dst: template.dst,
         id: template.id,
+        protocol: template.protocol,
     }
 }
 
-/// Compares what taking a piece answered.
-pub fn same(
+/// Whether a piece's key, which is another, is so in the protocol alone.
+fn in_protocol_alone(key: Key, packet: &[u8]) -> bool {
+    let other = model::key_of(packet);
+    let protocol = other.protocol;
+    other == Key { protocol, ..key }
+}
+
+/// Takes a piece, and compares what was answered.
+pub fn takes(
     run: &mut Run,
-    got: Result<Outcome, Refusal>,
+    ours: &mut Assembly,
+    packet: &[u8],
     expected: Result<Outcome, Refusal>,
 ) -> Compared {
+    let got = ours.take(packet);
+    run.same("wb_assembly_take", got, expected)?;
     match got {
         Ok(Outcome::Waiting) => run.saw("taken: waiting"),
         Ok(Outcome::Complete) => run.saw("taken: complete"),
         Ok(Outcome::Spoilt) => run.saw("taken: spoilt"),
+        Err(Refusal::WrongKey) if in_protocol_alone(ours.record().key, packet) => {
+            run.saw("refused by 8: for the protocol alone")
+        }
         Err(_) => {}
     }
-    run.same("wb_assembly_take", got, expected)
+    Ok(())
 }
 
 /// Compares the answer, the record and every byte of both buffers, a refusal's too.
@@ -79,7 +98,7 @@ pub fn compare(run: &mut Run) -> Compared {
     same_progress(run, &ours, Progress::Waiting)?;
     for _ in 0..1 + run.rng.below(12) {
         let packet = packet(&mut run.rng, &template, &payload, len, odd);
-        same(run, ours.take(&packet), model.take(&packet))?;
+        takes(run, &mut ours, &packet, model.take(&packet))?;
         same_state(&ours, model.record(), &model.payload, &model.map)?;
         same_progress(run, &ours, model.progress())?;
     }
@@ -150,7 +169,7 @@ pub fn refused(run: &mut Run) -> Compared {
     let mut ours = Assembly::resume(record, &mut held, &mut map);
     let progress = ours.progress();
     run.same("wb_assembly_progress", progress, Err(Refusal::BadAssembly))?;
-    same(run, ours.take(&packet), Err(Refusal::BadAssembly))?;
+    takes(run, &mut ours, &packet, Err(Refusal::BadAssembly))?;
     let untouched = ours.record() == record
         && ours.payload().iter().all(|&b| b == 0xa5)
         && ours.map().iter().all(|&b| b == 0x5a);

@@ -58,7 +58,7 @@ structs! {
     IcmpFlow { cl: u32, sv: u32, ping_seq: u16, pong_seq: u16 }
     IcmpSent { status: u8, flow: IcmpFlow, length: usize }
     Checked { status: u8, no_checksum: bool }
-    Key { saddr: u32, daddr: u32, id: u16 }
+    Key { saddr: u32, daddr: u32, id: u16, protocol: u8 }
     Assembly { key: Key, known: bool, total: usize, floor: usize, spoilt: bool }
     Opened { status: u8, assembly: Assembly }
     Taken { status: u8, outcome: u8, assembly: Assembly }

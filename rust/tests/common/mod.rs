@@ -12,6 +12,7 @@ pub const KEY: Key = Key {
     src: CLIENT,
     dst: SERVER,
     id: 7,
+    protocol: 17,
 };
 
 /// The most bytes that an IPv4 packet has.

@@ -1,26 +1,19 @@
--- The three tests of the code are those of the definition.
-use borrow.Author.Tests.{eq-eqb, ne-eqb}
-use mathlib.Core.Path.{refl}
-use Rattle.assembly.specs.Carried.{sameKey}
+-- The four tests of the code are those of the definition.
+use Rattle.assembly.proofs.Carrying.{source-differs, destination-differs, identification-differs, by-protocol}
 use Rattle.assembly.proofs.carried.same_key.Statement.{statement}
 use Rattle.assembly.proofs.carried.same_key.Tie as tie
 
 returns : tie.Need-returns
-unfolding sameKey
-returns c = rw (ne-eqb _ _ (c .if1 .taken)) refl
+returns c = search source-differs
 
 returns-2 : tie.Need-returns-2
-unfolding sameKey
-returns-2 c = rw (eq-eqb _ _ (c .before .before .before .if1 .left), ne-eqb _ _ (c .if2 .taken)) refl
+returns-2 c = search destination-differs
 
 returns-3 : tie.Need-returns-3
-unfolding sameKey
-returns-3 c = rw (eq-eqb _ _ (c .before .before .before .before .before .if1 .left), eq-eqb _ _ (c .before .before .if2 .left)) refl
+returns-3 c = search identification-differs
+
+returns-4 : tie.Need-returns-4
+returns-4 c = search by-protocol
 
 pub same-key-spec : {M : Type 1} → statement M
-same-key-spec =
-    tie.close
-    (tie.spec
-    returns
-    returns-2
-    returns-3)
+same-key-spec = tie.close (tie.spec returns returns-2 returns-3 returns-4)
