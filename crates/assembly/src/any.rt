@@ -1,4 +1,5 @@
 // An assembly of any capacity: that of its payload buffer, for which its map has a bit for each block.
+use crate::Key;
 use crate::Progress;
 use crate::Rec;
 use crate::Taken;
@@ -10,8 +11,10 @@ use inspect::header::Seen;
 use pkt::refusal;
 ghost use mathlib.Core.Path.{_≡_};
 ghost use Prim.Native.Nat.{_*_};
+ghost use lib.ListN.{length};
 ghost use lib.Dec.{leb};
-ghost use Rattle.assembly.specs.View.{view};
+ghost use Rattle.assembly.specs.Assembly.{opened, recordFits};
+ghost use Rattle.assembly.specs.View.{view, totalOf};
 ghost use Rattle.assembly.specs.Answers.{progressSays};
 ghost use Rattle.assembly.specs.Calls.{ready, Puts, anyProgress};
 
@@ -32,6 +35,22 @@ fn is_ready(rec: Rec, payload: &[u8], map: &[u8]) -> bool
         return record::fits(total, floor, payload.len());
     }
     false
+}
+
+// Whether pieces within a payload buffer of so many bytes can lead to this record.
+pub fn fits(rec: Rec, capacity: usize) -> bool
+    ensures { λ r. ⌜ r ≡ recordFits capacity (totalOf (rec .total)) (rec .floor) ⌝ }
+{
+    let total = rec.total;
+    let floor = rec.floor;
+    record::fits(total, floor, capacity)
+}
+
+// Opens an assembly with these buffers for a key: all but the key becomes zero.
+pub fn open(key: Key, payload: &mut [u8], map: &mut [u8]) -> Rec
+    ensures { λ r. ⌜ view r (now (payload .exit)) (now (map .exit)) ≡ opened key (length (now (payload .entry))) (length (now (map .entry))) ⌝ }
+{
+    step::wipe(payload, map, key, false)
 }
 
 // Takes the piece with this header and this data, or refuses it and leaves the buffers as they were.

@@ -56,7 +56,6 @@ fn total_fits(total: Total, cap: usize) -> bool
 
 // Whether pieces within a payload of `cap` bytes can lead to this total and floor.
 pub(crate) fn fits(total: Total, floor: usize, cap: usize) -> bool
-    requires { ⌜ cap < 2 ^ 63 ⌝ }
     ensures { λ r. ⌜ r ≡ recordFits cap (totalOf total) floor ⌝ }
 {
     if total_fits(total, cap) {

@@ -33,7 +33,7 @@ use Rattle.pkt.specs.Written.{Wrote}
 use Rattle.pcap.specs.Answers.{capturedSays}
 use Rattle.pcap.specs.declared.Captured.the-variants as captured
 
--- Every call of the library crates that is lent bytes to write, by the contract that it has. n is the refusal's number. A refusal hands no flow
+-- Every call of the library crates but `table` that is lent bytes to write, by the contract that it has. n is the refusal's number. A refusal hands no flow
 -- and no assembly's record back, because it holds its number only: its type alone says that the caller goes on with what it has.
 pub record RefusedKeep : Type 0 where
   -- `build`, `fragment`, `tail`, `datagram`, `client_dgram`, `server_dgram`: the output

@@ -34,3 +34,9 @@ pub const BAD_SUM: u8 = 15;
 pub const BAD_PART: u8 = 16;
 // Microseconds above 999,999.
 pub const BAD_TIME: u8 = 17;
+// A table of assemblies has no slot with the key and none that is free.
+pub const FULL: u8 = 19;
+// A piece ends above what a slot of a table has room for.
+pub const TOO_FAR_FOR_SLOT: u8 = 20;
+// A table of assemblies has no assembly for the key, or none that is complete.
+pub const NO_DATAGRAM: u8 = 27;

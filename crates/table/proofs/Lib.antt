@@ -1,0 +1,11 @@
+pub mod Calling
+pub mod Carries
+pub mod Few
+pub mod Held
+pub mod Keys
+pub mod Lowest
+pub mod Mixed
+pub mod Only
+pub mod Parts
+pub mod Places
+pub mod Stepping
