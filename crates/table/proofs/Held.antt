@@ -22,7 +22,7 @@ use Rattle.assembly.proofs.Describes.{Describes, spoiled, sound, run-describes}
 use Rattle.assembly.proofs.Assembles.{assembles}
 use Rattle.table.specs.declared.Slot.{Slot}
 use Rattle.table.specs.Slots.{slots, slotBytes, slotMap, partOf, withPart, freeSlot, slotOf, stateAt, slotFits, tableFits}
-use Rattle.table.proofs.Places.{part-length, with-length, part-same, part-other}
+use Rattle.table.proofs.Places.{place-length, with-length, place-same, part-other}
 use Rattle.table.proofs.Keys.{same-is, Has, has-below, none-has, has-stored, stored-has, has-other, other-has, all-fit, Distinct, no-twice}
 
 -- ---- one assembly
@@ -106,7 +106,7 @@ module _ (f : Key → List Piece) (t : List Slot) (d m : List ℕ) (h : Held f t
       let k : Key = getD t i freeSlot .rec .key in
       let a : Has t i k = record { used = u; key-is = refl } in
       let b : i < slots = omega (arith, has-below t i k a, h .size) in
-      let n : length (partOf slotBytes i d) ≡ slotBytes = part-length slotBytes slots i d b (h .payloads) in
+      let n : length (partOf slotBytes i d) ≡ slotBytes = place-length slotBytes slots i d b (h .payloads) in
       let v = assembles slotBytes slotMap k (omega arith) .stays-valid (f k) (h .acceptable k) in
       pick-yes _ _ u
       ∙ ap (λ (c : ℕ). recordFits c (totalOf (getD t i freeSlot .rec .total)) (getD t i freeSlot .rec .floor)) (sym n)
@@ -201,8 +201,8 @@ module _ (f : Key → List Piece) (t : List Slot) (d m : List ℕ) (h : Held f t
     unfolding t′ d′ m′
     state-same =
         let e = getD-set-same t i (slotOf place) freeSlot within in
-        let a = part-same slotBytes slots i (place .payload) d below (h .payloads) (sizes .payload-size) in
-        let b = part-same slotMap slots i (place .map) m below (h .maps) (sizes .map-size) in
+        let a = place-same slotBytes slots i (place .payload) d below (h .payloads) (sizes .payload-size) in
+        let b = place-same slotMap slots i (place .map) m below (h .maps) (sizes .map-size) in
         (λ x. view (e x .rec) (a x) (b x)) ∙ view-of place
 
     state-other : (j : ℕ) → j ≢ i → stateAt t′ d′ m′ j ≡ stateAt t d m j

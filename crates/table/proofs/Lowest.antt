@@ -21,7 +21,7 @@ use Rattle.table.specs.declared.Found.{Found}
 use Rattle.table.specs.declared.Found.the-variants.{At, Absent}
 use Rattle.table.specs.Slots.{slots, slotBytes, slotMap, noKey, freeSlot, holdsKey, keyFrom, freeFrom, found}
 use Rattle.table.specs.Slots.{slotFits, allFit, keyAgain, keyTwice, tableFits, Sized}
-use Rattle.table.specs.Steps.{Held}
+use Rattle.table.specs.Steps.{Occupied}
 
 -- ---- one slot
 
@@ -34,11 +34,15 @@ slot-free k e = ap (λ (x : Key). record { used = false; rec = record { key = x;
 abbrev pub past : Slot
 past = record { used = false; rec = record { key = noKey; total = Known 0; floor = 0; spoilt = false } }
 
+-- a slot that is there is the same, whatever is told past the end
+pub same-element : (t : List Slot) (i : ℕ) (x y : Slot) → i < length t → getD t i x ≡ getD t i y
+same-element [] i x y h = absurd (not-suc-le-zero h)
+same-element (s ∷ t) zero x y h = refl
+same-element (s ∷ t) (suc i) x y h = same-element t i x y (le-of-suc-le-suc h)
+
 -- Below the length it does not matter what is read behind the last.
 pub read-within : (t : List Slot) (i : ℕ) → i < length t → getD t i past ≡ getD t i freeSlot
-read-within [] i h = absurd (not-suc-le-zero h)
-read-within (s ∷ t) zero h = refl
-read-within (s ∷ t) (suc i) h = read-within t i (le-of-suc-le-suc h)
+read-within t i h = same-element t i past freeSlot h
 
 -- An occupied slot has the key of its record.
 pub used-holds : (k : Key) (s : Slot) (b : Bool) → s .used ≡ true → b ≡ sameKey (s .rec .key) k → b ≡ holdsKey k s
@@ -230,11 +234,6 @@ module _ (t : List Slot) (i : ℕ) (e : freeFrom 0 t ≡ At i) where
   pub free-below : i < length t
   free-below = omega (arith, free-meets t 0 i e .below)
 
-  -- .. and is not occupied
-  pub free-unused : getD t i freeSlot .used ≡ false
-  unfolding isFree
-  free-unused = not-true _ (whole isFree t i (free-meets t 0 i e))
-
 -- ---- whether a table is usable, by the tests in their order
 
 module _ (t : List Slot) (d m : ℕ) where
@@ -294,11 +293,16 @@ fit-at (s ∷ t) zero e = both-fit (slotFits s) (allFit t) e .0
 fit-at (s ∷ t) (suc i) e = fit-at t i (both-fit (slotFits s) (allFit t) e .1)
 
 -- An occupied one's record fits.
-pub record-fits : (t : List Slot) (i : ℕ) → allFit t ≡ true → getD t i freeSlot .used ≡ true
+record-fits : (t : List Slot) (i : ℕ) → allFit t ≡ true → getD t i freeSlot .used ≡ true
     → recordFits slotBytes (totalOf (getD t i freeSlot .rec .total)) (getD t i freeSlot .rec .floor) ≡ true
 unfolding slotFits
 record-fits t i e u = sym (pick-yes _ true u) ∙ fit-at t i e
 
+-- .. of a usable table
+pub usable-record : (t : List Slot) (i d m : ℕ) → tableFits t d m ≡ true → getD t i freeSlot .used ≡ true
+    → recordFits slotBytes (totalOf (getD t i freeSlot .rec .total)) (getD t i freeSlot .rec .floor) ≡ true
+usable-record t i d m e u = record-fits t i (usable t d m e .fit) u
+
 -- A slot of a usable table that is found by its key is held.
-pub key-found : (k : Key) (t : List Slot) (d m i : ℕ) → tableFits t d m ≡ true → length t ≡ slots → keyFrom 0 k t ≡ At i → Held t i d m
-key-found k t d m i u n e = record { usable = u; sized = usable-sized t d m i u (omega (arith, key-below k t i e)); used = key-used k t i e }
+pub key-occupied : (k : Key) (t : List Slot) (d m i : ℕ) → tableFits t d m ≡ true → length t ≡ slots → keyFrom 0 k t ≡ At i → Occupied t i d m
+key-occupied k t d m i u n e = record { usable = u; sized = usable-sized t d m i u (omega (arith, key-below k t i e)); used = key-used k t i e }

@@ -7,17 +7,17 @@ use native.Mathlib.Nat.{mul-le-mul-left}
 use native.Mathlib.Decide.{decLt}
 use native.Mathlib.Omega.{arith}
 use lib.ListN.{length, take, drop, length-append, length-take, length-drop, take-append-drop}
-use lib.Seq.{length-take-le, take-at, drop-at, take-append-le, drop-append-le, drop-append-add, drop-drop}
+use lib.Seq.{length-take-le, take-append-le, drop-append-le, drop-append-add, drop-drop}
 use Rattle.table.specs.Slots.{partOf, withPart}
+use Rattle.table.proofs.Parts.{part-length, part-back}
 
 -- a part of a buffer with N of them is inside it
 inside : (n N i : ℕ) (l : List ℕ) → i < N → length l ≡ n * N → n * i + n ≤ length l
 inside n N i l h e = omega (arith, mul-le-mul-left n h)
 
 -- a part is as long as it should be
-pub part-length : (n N i : ℕ) (l : List ℕ) → i < N → length l ≡ n * N → length (partOf n i l) ≡ n
-unfolding partOf
-part-length n N i l h e = simp (length-take, length-drop) (omega (arith, inside n N i l h e))
+pub place-length : (n N i : ℕ) (l : List ℕ) → i < N → length l ≡ n * N → length (partOf n i l) ≡ n
+place-length n N i l h e = part-length n i l (inside n N i l h e)
 
 -- another part leaves the buffer as long as it was
 pub with-length : (n N i : ℕ) (p l : List ℕ) → i < N → length l ≡ n * N → length p ≡ n → length (withPart n i p l) ≡ length l
@@ -25,11 +25,8 @@ unfolding withPart
 with-length n N i p l h e q = simp (length-append, length-take, length-drop) (omega (arith, inside n N i l h e))
 
 -- the part that was put there is there
-pub part-same : (n N i : ℕ) (p l : List ℕ) → i < N → length l ≡ n * N → length p ≡ n → partOf n i (withPart n i p l) ≡ p
-unfolding partOf withPart
-part-same n N i p l h e q =
-    let t : length (take (n * i) l) ≡ n * i = length-take-le (n * i) l (omega (arith, inside n N i l h e)) in
-    ap (take n) (drop-at (take (n * i) l) _ (n * i) t) ∙ take-at p _ n q
+pub place-same : (n N i : ℕ) (p l : List ℕ) → i < N → length l ≡ n * N → length p ≡ n → partOf n i (withPart n i p l) ≡ p
+place-same n N i p l h e q = part-back n i p l q (omega (arith, inside n N i l h e))
 
 -- a part before a seam, and one behind it
 before : (n j : ℕ) (a b : List ℕ) → j + n ≤ length a → take n (drop j (a ++ b)) ≡ take n (drop j a)

@@ -1,17 +1,16 @@
 -- What the steps of a table's calls lead to.
 use mathlib.Core.Path.{_≡_, refl, sym, ap, subst, _∙_}
-use mathlib.Core.Bool.{Bool, true, false, not, _&&_, cond, true≢false}
-use mathlib.Core.List.{List, [], _∷_}
+use mathlib.Core.Bool.{Bool, true, false, not, _&&_, cond}
+use mathlib.Core.List.{List, []}
 use mathlib.Core.Option.{Option, none, some}
-use Prim.Native.Nat.{ℕ, zero, suc, _+_, _*_, _≤_, _<_}
+use Prim.Native.Nat.{ℕ, _+_, _*_, _≤_, _<_}
 use native.Mathlib.Omega.{arith}
-use native.Mathlib.Nat.{le-of-suc-le-suc}
 use lib.ListN.{length, set, take, getD, length-take}
-use lib.Dec.{ltb, eqb}
+use lib.Dec.{ltb}
 use borrow.Author.Tests.{lt-ltb, le-ltb}
 use Rattle.pkt.specs.Answers.{Answer, refused, gives, andThen, mapped, fitting}
 use Rattle.pkt.specs.Written.{written}
-use Rattle.pkt.proofs.Choice.{and-both, pick-yes, pick-no}
+use Rattle.pkt.proofs.Choice.{pick-yes, pick-no}
 use Rattle.pkt.proofs.Deciding.{past}
 use Rattle.inspect.specs.declared.header.IpRead.{IpRead}
 use Rattle.assembly.specs.declared.Rec.{Rec}
@@ -29,9 +28,10 @@ use Rattle.assembly.proofs.Calls.{put-by}
 use Rattle.table.specs.declared.Slot.{Slot}
 use Rattle.table.specs.declared.Placed.{Placed}
 use Rattle.table.specs.declared.TakenOut.{TakenOut}
-use Rattle.table.specs.Slots.{slots, slotBytes, slotMap, partOf, withPart, freeSlot, stateAt, slotFits, allFit, keyTwice, tableFits}
+use Rattle.table.specs.Slots.{slots, slotBytes, slotMap, partOf, withPart, freeSlot, stateAt}
 use Rattle.table.specs.Table.{steppedSays, outSays, placing, Tables, Outing, outing, outOf, slotsWithout, partWithout, slotIn, datagramIn}
-use Rattle.table.specs.Steps.{slotsWith, Stored, PutAsks, Held, lengthIn, MovedOut, OutOf}
+use Rattle.table.specs.Steps.{slotsWith, Stored, PutAsks, Occupied, lengthIn, MovedOut, OutOf}
+use Rattle.table.proofs.Lowest.{usable-record, same-element}
 use Rattle.table.proofs.Parts.{lent, back, lent-part, back-part, payload-length, map-length, first-of}
 
 -- ---- storing what a piece led to
@@ -103,46 +103,13 @@ module _ (t : List Slot) (i : ℕ) (x : Rec) (h : IpRead) (b d m : List ℕ) (as
 
 -- ---- an occupied slot of a usable table
 
--- as `cond` chooses `and`
-both-hold : (a b : Bool) → cond a b false ≡ true → (a ≡ true) × (b ≡ true)
-both-hold true b e = (refl, e)
-both-hold false b e = absurd (true≢false (sym e))
-
--- each slot of a list that fits does; past its end there are free ones
-all-fit-at : (t : List Slot) (i : ℕ) → allFit t ≡ true → slotFits (getD t i freeSlot) ≡ true
-unfolding allFit slotFits
-all-fit-at [] i e = refl
-all-fit-at (s ∷ t) zero e = both-hold (slotFits s) (allFit t) e .0
-all-fit-at (s ∷ t) (suc i) e = all-fit-at t i (both-hold (slotFits s) (allFit t) e .1)
-
--- a usable table's slots fit
-usable-fits : (t : List Slot) (d m : ℕ) → tableFits t d m ≡ true → allFit t ≡ true
-unfolding tableFits
-usable-fits t d m e = and-both (allFit t) (not (keyTwice t)) (and-both (eqb d (slotBytes * slots) && eqb m (slotMap * slots)) _ e .1) .0
-
--- a slot that fits and is occupied has a record that fits
-used-fits : (s : Slot) → s .used ≡ true → slotFits s ≡ true → recordFits slotBytes (totalOf (s .rec .total)) (s .rec .floor) ≡ true
-unfolding slotFits
-used-fits s u e = sym (pick-yes _ _ u) ∙ e
-
--- so has an occupied one of a usable table,
-pub usable-record : (t : List Slot) (i d m : ℕ) → tableFits t d m ≡ true → getD t i freeSlot .used ≡ true
-    → recordFits slotBytes (totalOf (getD t i freeSlot .rec .total)) (getD t i freeSlot .rec .floor) ≡ true
-usable-record t i d m e u = used-fits (getD t i freeSlot) u (all-fit-at t i (usable-fits t d m e))
-
--- and an opened one
+-- an opened record fits
 pub opened-fits : recordFits slotBytes none 0 ≡ true
 unfolding recordFits totalFits
 opened-fits = refl
 
--- an element that is there is the same, whatever is told past the end
-pub same-element : (t : List Slot) (i : ℕ) (x y : Slot) → i < length t → getD t i x ≡ getD t i y
-same-element [] i x y h = absurd (omega arith)
-same-element (s ∷ t) zero x y h = refl
-same-element (s ∷ t) (suc i) x y h = same-element t i x y (le-of-suc-le-suc h)
-
 -- 11 is not given of an occupied slot
-held-stands : (t : List Slot) (i : ℕ) (d m : List ℕ) → Held t i (length d) (length m)
+held-stands : (t : List Slot) (i : ℕ) (d m : List ℕ) → Occupied t i (length d) (length m)
     → anyProgress (view (getD t i freeSlot .rec) (lent slotBytes i d) (lent slotMap i m)) ≡ gives (standingOf (stateAt t d m i))
 held-stands t i d m h =
     let x : Rec = getD t i freeSlot .rec in
@@ -194,7 +161,7 @@ length-by p s e = says p ∙ ap lengthOf e ∙ ap (λ (b : Bool). cond b (gives 
     says (progress.Refused n) = refl
 
 -- the length by progress p, which is q, of an occupied slot that is read with x past the end
-pub length-told : (t : List Slot) (x : Slot) (i : ℕ) (d m : List ℕ) (p q : Progress) → length t ≡ slots → Held t i (length d) (length m)
+pub length-told : (t : List Slot) (x : Slot) (i : ℕ) (d m : List ℕ) (p q : Progress) → length t ≡ slots → Occupied t i (length d) (length m)
     → progressSays p ≡ anyProgress (view (getD t i x .rec) (lent slotBytes i d) (lent slotMap i m)) → p ≡ q
     → lengthBy q ≡ lengthIn (stateAt t d m i)
 length-told t x i d m p q l h e g =

@@ -1,12 +1,11 @@
 -- Document 02, T-03: "Keep a table of eight assemblies, each with 8,192 payload bytes and a 128-byte map in lent buffers."
 use mathlib.Core.Path.{_≡_}
 use Prim.Native.Nat.{ℕ, suc, _*_, _<_}
-use mathlib.Core.Bool.{Bool, true, false, not, _&&_, _||_, cond}
+use mathlib.Core.Bool.{Bool, true, false, not, _&&_, cond}
 use mathlib.Core.List.{List, [], _∷_, _++_}
 use lib.ListN.{take, drop, getD}
 use lib.Dec.{eqb}
 use Rattle.assembly.specs.declared.Key.{Key}
-use Rattle.assembly.specs.declared.Rec.{Rec}
 use Rattle.assembly.specs.declared.Total.the-variants.{Unknown}
 use Rattle.assembly.specs.Assembly.{State, recordFits}
 use Rattle.assembly.specs.Carried.{sameKey}

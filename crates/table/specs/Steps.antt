@@ -9,13 +9,13 @@ use Rattle.pkt.specs.Written.{written}
 use Rattle.inspect.specs.declared.header.IpRead.{IpRead}
 use Rattle.assembly.specs.declared.Rec.{Rec}
 use Rattle.assembly.specs.Answers.{Reply}
-use Rattle.assembly.specs.Assembly.{State, Outcome, recordFits, complete, heldBytes}
+use Rattle.assembly.specs.Assembly.{State, recordFits, complete, heldBytes}
 use Rattle.assembly.specs.Carried.{fitAnswer}
 use Rattle.assembly.specs.View.{totalOf}
 use Rattle.table.specs.declared.Slot.{Slot}
 use Rattle.table.specs.declared.Placed.{Placed}
 use Rattle.table.specs.declared.TakenOut.{TakenOut}
-use Rattle.table.specs.Slots.{slotBytes, slotMap, partOf, freeSlot, stateAt, tableFits, slotFits, Sized}
+use Rattle.table.specs.Slots.{slotBytes, slotMap, partOf, freeSlot, stateAt, tableFits, Sized}
 use Rattle.table.specs.Table.{steppedSays, outSays, outOf, slotIn, slotsWithout, partWithout, datagramIn}
 
 -- the slots after an answer of taking a piece into slot i
@@ -41,7 +41,7 @@ pub record Fitting (t : List Slot) (h : IpRead) (n d m : ℕ) : Type 0 where
   pub has-room : FitsSlot h n
 
 -- slot i is occupied, and the table usable
-pub record Held (t : List Slot) (i d m : ℕ) : Type 0 where
+pub record Occupied (t : List Slot) (i d m : ℕ) : Type 0 where
   pub usable : tableFits t d m ≡ true
   pub sized : Sized i d m
   pub used : getD t i freeSlot .used ≡ true

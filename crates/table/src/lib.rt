@@ -22,7 +22,7 @@ ghost use Rattle.assembly.specs.Carried.{keyOf};
 ghost use Rattle.assembly.specs.View.{recordOf, view, piece};
 ghost use Rattle.table.specs.Slots.{slotBytes, slotMap, partOf, withPart, stateAt, noKey, freeSlot, holdsKey, keyFrom, freeFrom, slotFits, allFit, found, keyAgain, keyTwice, tableFits, Sized};
 ghost use Rattle.table.specs.Table.{steppedSays, goneSays, outSays, placing, openedAt, placeFor, steppedBy, pieceFor, tableTake, Tables, Discards, TakesOut};
-ghost use Rattle.table.specs.Steps.{Stored, PutAsks, Fitting, Held, lengthIn, MovedOut, OutOf};
+ghost use Rattle.table.specs.Steps.{Stored, PutAsks, Fitting, Occupied, lengthIn, MovedOut, OutOf};
 
 const SLOT_BYTES: usize = 8192;
 
@@ -418,7 +418,7 @@ fn stay(table: [Slot; 8], number: u8) -> TakenOut
 
 // The length of the complete datagram in slot i, or a refusal's number.
 fn length_at(table: [Slot; 8], i: usize, payloads: &[u8], maps: &[u8]) -> Out
-    requires { ⌜ Held table i (length (now payloads)) (length (now maps)) ⌝ }
+    requires { ⌜ Occupied table i (length (now payloads)) (length (now maps)) ⌝ }
     ensures { λ r. ⌜ outSays r ≡ lengthIn (stateAt table (now (payloads .entry)) (now (maps .entry)) i) ⌝ }
 {
     let s = table[i];
@@ -482,7 +482,7 @@ fn out_of(
     maps: &mut [u8],
     out: &mut [u8],
 ) -> TakenOut
-    requires { ⌜ Held table i (length (now payloads)) (length (now maps)) ⌝ }
+    requires { ⌜ Occupied table i (length (now payloads)) (length (now maps)) ⌝ }
     ensures { λ r. ⌜ OutOf table i (now (payloads .entry)) (now (maps .entry)) (now (out .entry)) r (now (payloads .exit)) (now (maps .exit)) (now (out .exit)) ⌝ }
 {
     match length_at(table, i, payloads, maps) {

@@ -12,8 +12,7 @@ use Rattle.table.specs.declared.Slot.{Slot}
 use Rattle.table.specs.declared.Found.the-variants.{At, Absent}
 use Rattle.table.specs.Slots.{slotBytes, keyFrom}
 use Rattle.table.proofs.Calling.{tables-as, place-new, place-at, read-step}
-use Rattle.table.proofs.Lowest.{key-below, key-found, read-within}
-use Rattle.table.proofs.Stepping.{usable-record}
+use Rattle.table.proofs.Lowest.{key-below, key-occupied, usable-record, read-within}
 use Rattle.table.proofs.place.Statement.{statement}
 use Rattle.table.proofs.place.Tie as tie
 
@@ -43,7 +42,7 @@ put-at-requires c κs =
     let i : ℕ = c .before .before .before .before .before .i .given .0 .0 in
     let k : Key = c .before .before .before .before .before .before .before .before .key-of .result in
     let e : keyFrom 0 k (a .t1) ≡ At i = sym (c .before .before .before .before .before .before .before .key-from .ensures) ∙ c .before .before .before .before .before .i .given .1 in
-    let held = key-found k (a .t1) (length (a .payloads .now)) (length (a .maps .now)) i (start .pre .usable) (start .good .0 .1 .0 .1) e in
+    let held = key-occupied k (a .t1) (length (a .payloads .now)) (length (a .maps .now)) i (start .pre .usable) (start .good .0 .1 .0 .1) e in
     let fits = usable-record (a .t1) i (length (a .payloads .now)) (length (a .maps .now)) (start .pre .usable) (held .used) in
     record {
       sized = held .sized;
