@@ -7,6 +7,7 @@ pub mod Pieces
 pub mod Describes
 pub mod Parts
 pub mod Assembles
+pub mod Keeping
 pub mod Calls
 pub mod Carrying
 pub mod Delivers

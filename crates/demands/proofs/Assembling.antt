@@ -29,10 +29,11 @@ use Rattle.assembly.specs.Calls.{capacity, mapBytes, progressAnswer, Gathered}
 use Rattle.assembly.specs.Demand as demand
 use Rattle.assembly.proofs.Parts.{requested-whole, requested-past, part-acceptable, mem-length}
 use Rattle.assembly.proofs.Carrying.{accepted}
-use Rattle.assembly.proofs.Assembles.{assembles-here}
+use Rattle.assembly.specs.Packets.{takeAll, Accepted}
+use Rattle.assembly.proofs.Assembles.{assembles, assembles-here}
 use Rattle.assembly.proofs.Delivers.{piecesOf, piece-from, piece-in, taken-is, taken-usable, gathered, delivers-here}
 use Rattle.demands.specs.Ranges.{Fitting}
-use Rattle.demands.specs.Assembling.{ipPiece, templateKey, Asked, by-fragment, by-tail, by-datagram, AllBuilt, Reached, Cover, afterPackets, Reassembles}
+use Rattle.demands.specs.Assembling.{ipPiece, templateKey, Asked, by-fragment, by-tail, by-datagram, BuiltFrom, AllBuilt, Reached, Cover, afterPackets, Reassembles}
 use Rattle.demands.proofs.Pieces.{flags-more, flags-offset, piece-fit}
 
 -- ---- the packet of a piece is read back as that piece
@@ -42,7 +43,8 @@ last-clear : (d : List ℕ) (off len : ℕ) → length d ≤ 8 * off + 8 * len �
 unfolding requested
 last-clear d off len h = let e : min (8 * off + 8 * len) (length d) ≡ length d = omega arith in ap not (eq-eqb _ _ e)
 
-module _ (t : Template) (d : List ℕ) (fits : Fitting t) (few : length d ≤ capacity) where
+-- The assembly has a payload buffer of C bytes and a map of M.
+module _ (C M : ℕ) (most : C ≤ capacity) (bits : C ≤ 64 * M) (t : Template) (d : List ℕ) (fits : Fitting t) (few : length d ≤ C) where
   module _ (off len : ℕ) (rest : List ℕ) (low : off ≤ 8191) where
     asked : IpPiece
     asked = ipPiece t off len
@@ -87,13 +89,13 @@ module _ (t : Template) (d : List ℕ) (fits : Fitting t) (few : length d ≤ ca
         in
         λ i. piece (flags-offset asked m low i) (flags-more asked m low i) (held i)
 
-    -- A piece that ends within the capacity is accepted, and carries the cut.
-    carried : end (requested d off len) ≤ capacity → pieceAnswer capacity (templateKey t) (packetOf (fragmentOf t off len) d ++ rest) ≡ gives (requested d off len)
+    -- A piece that ends within the C is accepted, and carries the cut.
+    carried : end (requested d off len) ≤ C → pieceAnswer C (templateKey t) (packetOf (fragmentOf t off len) d ++ rest) ≡ gives (requested d off len)
     unfolding asked header readOf templateKey
     carried room =
-        let ok : Acceptable capacity (pieceOf wire (readOf header)) = rw piece-is (record { whole = requested-whole d off len; fits = room }) in
-        ap (pieceAnswer capacity (templateKey t)) wire-is
-        ∙ accepted capacity (templateKey t) wire (readOf header) read-back refl ok
+        let ok : Acceptable C (pieceOf wire (readOf header)) = rw piece-is (record { whole = requested-whole d off len; fits = room }) in
+        ap (pieceAnswer C (templateKey t)) wire-is
+        ∙ accepted C (templateKey t) wire (readOf header) read-back refl ok
         ∙ ap gives piece-is
 
   -- ---- the three calls
@@ -105,23 +107,23 @@ module _ (t : Template) (d : List ℕ) (fits : Fitting t) (few : length d ≤ ca
   asked-within l off len (by-tail o rest h e) = h
   asked-within l off len (by-datagram rest e) = omega arith
 
-  asked-carries : (l : List ℕ) (off len : ℕ) → Asked t d l off len → pieceAnswer capacity (templateKey t) l ≡ gives (requested d off len)
+  pub asked-carries : (l : List ℕ) (off len : ℕ) → Asked t d l off len → pieceAnswer C (templateKey t) l ≡ gives (requested d off len)
   asked-carries l off len b = go b
     where
       cut-at : (o n : ℕ) (rest : List ℕ) → 8 * o ≤ length d → l ≡ packetOf (fragmentOf t o n) d ++ rest
-          → pieceAnswer capacity (templateKey t) l ≡ gives (requested d o n)
+          → pieceAnswer C (templateKey t) l ≡ gives (requested d o n)
       cut-at o n rest h e =
           let low : o ≤ 8191 = omega arith in
-          ap (pieceAnswer capacity (templateKey t)) e
-          ∙ carried o n rest low (part-acceptable capacity d (requested d o n) few (part-at o n h) .fits)
+          ap (pieceAnswer C (templateKey t)) e
+          ∙ carried o n rest low (part-acceptable C d (requested d o n) few (part-at o n h) .fits)
 
-      go : {o n : ℕ} → Asked t d l o n → pieceAnswer capacity (templateKey t) l ≡ gives (requested d o n)
+      go : {o n : ℕ} → Asked t d l o n → pieceAnswer C (templateKey t) l ≡ gives (requested d o n)
       go (by-fragment o n rest h e) = cut-at o n rest h e
       go (by-tail o rest h e) = cut-at o (length d) rest h e
       go (by-datagram rest e) = cut-at 0 (length d) rest (omega arith) e
 
   -- What such a packet is accepted with is the part that was asked for.
-  asked-is : (l : List ℕ) (p : Piece) (off len : ℕ) → Asked t d l off len → pieceAnswer capacity (templateKey t) l ≡ gives p → p ≡ requested d off len
+  asked-is : (l : List ℕ) (p : Piece) (off len : ℕ) → Asked t d l off len → pieceAnswer C (templateKey t) l ≡ gives p → p ≡ requested d off len
   asked-is l p off len b e = let y = asked-carries l off len b in cc (e, y)
 
   -- It ends where what was asked for ends.
@@ -134,47 +136,34 @@ module _ (t : Template) (d : List ℕ) (fits : Fitting t) (few : length d ≤ ca
       omega (arith, size)
 
   -- ---- lists of them
-  here : (k : Key) → demand.Assembles capacity mapBytes k
-  here k = assembles-here k
+  here : (k : Key) → demand.Assembles C M k
+  here k = assembles C M k bits
 
-  state-is : (ls : List (List ℕ)) → afterPackets t ls ≡ run (opened (templateKey t) capacity mapBytes) (piecesOf capacity (templateKey t) ls)
-  state-is ls = taken-is capacity mapBytes (templateKey t) (omega arith) ls
+  -- the state after packets
+  abbrev afterAll : List (List ℕ) → State
+  afterAll ls = takeAll C M (opened (templateKey t) C M) ls
 
-  module _ (ls : List (List ℕ)) (all : AllBuilt t d ls) where
+  state-is : (ls : List (List ℕ)) → afterAll ls ≡ run (opened (templateKey t) C M) (piecesOf C (templateKey t) ls)
+  state-is ls = taken-is C M (templateKey t) bits ls
+
+  -- those that are accepted were built; the others may be anything
+  module _ (ls : List (List ℕ)) (all : (l : List ℕ) (p : Piece) → Accepted C (templateKey t) ls l p → BuiltFrom t d l) where
     ps : List Piece
-    ps = piecesOf capacity (templateKey t) ls
+    ps = piecesOf C (templateKey t) ls
 
     parts : demand.Built d ps
     unfolding ps
     parts p m =
-        let x = piece-from capacity (templateKey t) ls p m in
-        let (off, len, y) = all (x .0) (x .1 .handed) in
+        let x = piece-from C (templateKey t) ls p m in
+        let (off, len, y) = all (x .0) p (x .1) in
         rw (asked-is (x .0) p off len y (x .1 .carries)) (part-at off len (asked-within (x .0) off len y))
-
-    not-none : 0 < length ls → 0 < length ps
-    unfolding ps
-    not-none = go ls all
-      where
-        go : (ms : List (List ℕ)) → AllBuilt t d ms → 0 < length ms → 0 < length (piecesOf capacity (templateKey t) ms)
-        go [] a h = absurd (omega arith)
-        go (l ∷ ms) a h =
-            let (off, len, y) = a l (List·Memᴰ·head refl) in
-            mem-length (piece-in capacity (templateKey t) (l ∷ ms) l (requested d off len) (record { handed = List·Memᴰ·head refl; carries = asked-carries l off len y }))
-
-    some-packet : 0 < length ps → 0 < length ls
-    unfolding ps piecesOf
-    some-packet = go ls
-      where
-        go : (ms : List (List ℕ)) → 0 < length (piecesOf capacity (templateKey t) ms) → 0 < length ms
-        go [] h = h
-        go (l ∷ ms) h = omega arith
 
     -- The pieces hold every place exactly if every place was asked for.
     reached : (j : ℕ) (p : Piece) → List·Memᴰ p ps → Holds p j → Reached t d ls j
     unfolding ps requested
     reached j p m h =
-        let x = piece-from capacity (templateKey t) ls p m in
-        let (off, len, y) = all (x .0) (x .1 .handed) in
+        let x = piece-from C (templateKey t) ls p m in
+        let (off, len, y) = all (x .0) p (x .1) in
         let is = asked-is (x .0) p off len y (x .1 .carries) in
         let in-it : Holds (requested d off len) j = subst (λ (q : Piece). Holds q j) is h in
         let low = asked-within (x .0) off len y in
@@ -195,61 +184,86 @@ module _ (t : Template) (d : List ℕ) (fits : Fitting t) (few : length d ≤ ca
         let p : Piece = requested d off len in
         let low = asked-within l off len y in (
           p,
-          piece-in capacity (templateKey t) ls l p (record { handed = handed; carries = asked-carries l off len y }),
+          piece-in C (templateKey t) ls l p (record { handed = handed; carries = asked-carries l off len y }),
           record { from = omega (arith, from); till = omega (arith, till, asked-end off len low) },
         )
 
-    built-complete : (complete (afterPackets t ls) ≡ true) ↔ ((0 < length ls) × Covers ps (length d))
-    unfolding ps
+    pub built-complete : (complete (afterAll ls) ≡ true) ↔ ((0 < length (piecesOf C (templateKey t) ls)) × Cover t d ls)
+    unfolding ps Covers Cover
     built-complete =
         let e = ap complete (state-is ls) in
         let w = here (templateKey t) .complete-when d few ps parts in (
-          λ h. let x = w .0 (sym e ∙ h) in (some-packet (x .0), x .1),
-          λ x. e ∙ w .1 (not-none (x .0), x .1),
+          λ h. let x = w .0 (sym e ∙ h) in (x .0, λ j q. let (p, m, holds) = x .1 j q in reached j p m holds),
+          λ x. e ∙ w .1 (x .0, λ j q. let r = x .1 j q in held-at j (r .packet) (r .off) (r .len) (r .handed) (r .asked) (r .from) (r .till)),
         )
 
-    built-held : complete (afterPackets t ls) ≡ true → Gathered (progressAnswer capacity mapBytes (afterPackets t ls)) (afterPackets t ls .payload) d
+    pub built-whole : complete (afterAll ls) ≡ true → heldBytes (afterAll ls) ≡ d
+    unfolding ps
+    built-whole h =
+        ap heldBytes (state-is ls) ∙ here (templateKey t) .held-whole d few ps parts (sym (ap complete (state-is ls)) ∙ h)
+
+    built-held : complete (afterAll ls) ≡ true → Gathered (progressAnswer C M (afterAll ls)) (afterAll ls .payload) d
     unfolding ps
     built-held h =
-        let e : complete (run (opened (templateKey t) capacity mapBytes) ps) ≡ true = sym (ap complete (state-is ls)) ∙ h in
-        gathered _ (afterPackets t ls) d (taken-usable capacity mapBytes (templateKey t) (omega arith) ls) h
-        (ap heldBytes (state-is ls) ∙ here (templateKey t) .held-whole d few ps parts e)
+        let e : complete (run (opened (templateKey t) C M) ps) ≡ true = sym (ap complete (state-is ls)) ∙ h in
+        gathered _ (afterAll ls) d (taken-usable C M (templateKey t) bits ls) h (built-whole h)
         (ap (λ (s : State). take (length d) (s .payload)) (state-is ls) ∙ here (templateKey t) .held d few ps parts e .1)
 
-    built-sound : afterPackets t ls .spoilt ≡ false
+    pub built-sound : afterAll ls .spoilt ≡ false
     unfolding ps
     built-sound = ap (λ (s : State). s .spoilt) (state-is ls) ∙ here (templateKey t) .never-spoilt d few ps [] (rw append-nil parts)
 
   -- ---- the story
-  past-carries : (l : List ℕ) (off len : ℕ) (rest : List ℕ) → length d < 8 * off → 8 * off ≤ capacity → l ≡ packetOf (fragmentOf t off len) d ++ rest
-      → pieceAnswer capacity (templateKey t) l ≡ gives (requested d off len)
+  past-carries : (l : List ℕ) (off len : ℕ) (rest : List ℕ) → length d < 8 * off → 8 * off ≤ C → l ≡ packetOf (fragmentOf t off len) d ++ rest
+      → pieceAnswer C (templateKey t) l ≡ gives (requested d off len)
   past-carries l off len rest past room built =
       let low : off ≤ 8191 = omega (arith, room) in
-      ap (pieceAnswer capacity (templateKey t)) built
+      ap (pieceAnswer C (templateKey t)) built
       ∙ carried off len rest low (omega (arith, requested-past d off len past, room))
+
+-- ---- document 01's sizes
+module _ (t : Template) (d : List ℕ) (fits : Fitting t) (few : length d ≤ capacity) where
+  abbrev Own : List (List ℕ) → Type 0
+  Own ls = (l : List ℕ) (p : Piece) → Accepted capacity (templateKey t) ls l p → BuiltFrom t d l
+
+  own-built : (ls : List (List ℕ)) → AllBuilt t d ls → Own ls
+  own-built ls all l p a = all l (a .handed)
+
+  carries-here : (l : List ℕ) (off len : ℕ) → Asked t d l off len → pieceAnswer capacity (templateKey t) l ≡ gives (requested d off len)
+  carries-here = asked-carries capacity mapBytes (omega arith) (omega arith) t d fits few
+
+  not-none : (ls : List (List ℕ)) → AllBuilt t d ls → 0 < length ls → 0 < length (piecesOf capacity (templateKey t) ls)
+  not-none [] all h = absurd (omega arith)
+  not-none (l ∷ ls) all h =
+      let (off, len, y) = all l (List·Memᴰ·head refl) in
+      mem-length (piece-in capacity (templateKey t) (l ∷ ls) l (requested d off len) (record { handed = List·Memᴰ·head refl; carries = carries-here l off len y }))
+
+  some-packet : (ls : List (List ℕ)) → 0 < length (piecesOf capacity (templateKey t) ls) → 0 < length ls
+  unfolding piecesOf
+  some-packet [] h = h
+  some-packet (l ∷ ls) h = omega arith
+
+  complete-here : (ls : List (List ℕ)) → Own ls → (complete (afterPackets t ls) ≡ true) ↔ ((0 < length (piecesOf capacity (templateKey t) ls)) × Cover t d ls)
+  complete-here = built-complete capacity mapBytes (omega arith) (omega arith) t d fits few
 
   -- Demand 3: "If all were built from one payload of at most 65,515 bytes under one header with the assembly's key, none asked for past its
   -- end, all are accepted and the state is never spoilt. It is complete exactly when at least one was handed in and together they cover the
   -- payload, and it then holds that payload."
   pub reassembles : Reassembles t d
-  unfolding Covers Cover
   reassembles =
       record {
-        carries = asked-carries;
+        carries = carries-here;
         accepted =
             λ ls l off len b.
-            delivers-here (templateKey t) .answers ls l ∙ ap (λ (a : Answer Piece). mapped (step (afterPackets t ls)) a) (asked-carries l off len b);
-        never-spoilt = λ ls later all. built-sound ls (λ l m. all l (Memᴰ·append-left later m));
+            delivers-here (templateKey t) .answers ls l ∙ ap (λ (a : Answer Piece). mapped (step (afterPackets t ls)) a) (carries-here l off len b);
+        never-spoilt =
+            λ ls later all.
+            built-sound capacity mapBytes (omega arith) (omega arith) t d fits few ls (λ l p a. all l (Memᴰ·append-left later (a .handed)));
         complete-when =
-            λ ls all. (
-              λ h.
-                  let (some, covers) = built-complete ls all .0 h in
-                  (omega (arith, some), λ j q. let (p, m, holds) = covers j q in reached ls all j p m holds),
-              λ (some, cover).
-                  built-complete ls all .1
-                  (some, λ j q. let r = cover j q in held-at ls all j (r .packet) (r .off) (r .len) (r .handed) (r .asked) (r .from) (r .till)),
-            );
-        held = λ ls all h. built-held ls all h;
+            λ ls all.
+            let w = complete-here ls (own-built ls all) in
+            (λ h. let x = w .0 h in (some-packet ls (x .0), x .1), λ x. w .1 (not-none ls all (x .0), x .1));
+        held = λ ls all h. built-held capacity mapBytes (omega arith) (omega arith) t d fits few ls (own-built ls all) h;
         past-end-spoils =
             λ l m off len x b up ls lm mm.
             delivers-here (templateKey t) .spoilt-when ls .1
@@ -258,9 +272,12 @@ module _ (t : Template) (d : List ℕ) (fits : Fitting t) (few : length d ≤ ca
               other = m;
               p = requested d (x .off) (x .len);
               q = requested d off len;
-              one-in = record { handed = lm; carries = past-carries l (x .off) (x .len) (x .rest) (x .past) (x .room) (x .built) };
-              other-in = record { handed = mm; carries = asked-carries m off len b };
-              clash = here (templateKey t) .past-end d (x .off) (x .len) (x .past) (requested d off len) (part-at off len (asked-within m off len b)) (last-clear d off len up);
+              one-in = record { handed = lm; carries = past-carries capacity mapBytes (omega arith) (omega arith) t d fits few l (x .off) (x .len) (x .rest) (x .past) (x .room) (x .built) };
+              other-in = record { handed = mm; carries = carries-here m off len b };
+              clash =
+                  assembles-here (templateKey t) .past-end d (x .off) (x .len) (x .past) (requested d off len)
+                  (part-at capacity mapBytes (omega arith) (omega arith) t d fits few off len (asked-within capacity mapBytes (omega arith) (omega arith) t d fits few m off len b))
+                  (last-clear d off len up);
             });
       }
 

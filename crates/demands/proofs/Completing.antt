@@ -29,7 +29,7 @@ use Rattle.demands.proofs.Handing.{take-one-more, handed-is, complete-t
 use Rattle.demands.proofs.Assembling.{reassembles}
 
 -- What the calls that cut leave is what they are asked for.
-cut-asked : (t : Template) (d l : List ℕ) (off len : ℕ) → CutBy t d l off len → Asked t d l off len
+pub cut-asked : (t : Template) (d l : List ℕ) (off len : ℕ) → CutBy t d l off len → Asked t d l off len
 cut-asked t d l off len (of-fragment o k n b h x) = by-fragment o k _ h (left-by (fragmentOf t o k) d b l n x)
 cut-asked t d l off len (of-tail o n b h x) = by-tail o _ h (left-by (tailOf t o (length d)) d b l n x)
 cut-asked t d l off len (of-datagram n b x) = by-datagram _ (left-by (datagramOf t (length d)) d b l n x)

@@ -1,12 +1,12 @@
 -- Demand 3 for what is cut from one payload, told by the calls: what holds of the state after the packets holds of the record and the buffers.
 use mathlib.Core.Logic.{_↔_}
-use mathlib.Core.Path.{_≡_, refl, sym, ap, subst, _∙_}
-use mathlib.Core.Bool.{true, false}
+use mathlib.Core.Path.{_≡_, refl, sym, ap, _∙_}
+use mathlib.Core.Bool.{true}
 use mathlib.Core.List.{List, [], append-nil}
 use Prim.Native.Nat.{ℕ, _≤_, _<_}
 use native.Mathlib.Omega.{arith}
 use lib.ListN.{length, take}
-use Rattle.pkt.specs.Answers.{Answer, refused, gives, mapped}
+use Rattle.pkt.specs.Answers.{Answer, gives, mapped}
 use Rattle.pkt.proofs.Choice.{pick-yes}
 use Rattle.ezpkt.specs.declared.ip4.Template.{Template}
 use Rattle.assembly.specs.declared.Rec.{Rec}
@@ -14,7 +14,7 @@ use Rattle.assembly.specs.declared.Taken.{Taken}
 use Rattle.assembly.specs.declared.step.Progress.{Progress}
 use Rattle.assembly.specs.declared.step.Progress.the-variants.{Complete}
 use Rattle.assembly.specs.View.{view}
-use Rattle.assembly.specs.Assembly.{State, Outcome, isComplete, outcome, step, complete, heldBytes}
+use Rattle.assembly.specs.Assembly.{State, Outcome, isComplete, step, complete, heldBytes}
 use Rattle.assembly.specs.Answers.{Reply, replyOf, takenSays, Standing, standing, standingOf, progressSays}
 use Rattle.assembly.specs.Cut.{requested}
 use Rattle.assembly.specs.Calls.{capacity, mapBytes, takeAnswer, Takes, usable, progressAnswer}

@@ -12,3 +12,4 @@ pub mod Worked
 pub mod Gathering
 pub mod Listing
 pub mod Demands
+pub mod Tabled

@@ -22,12 +22,17 @@ use Rattle.inspect.specs.Check.{isPiece, isOther, tcpCut, isCut, wholeAnswer, v
 use Rattle.inspect.specs.declared.header.IpRead.{IpRead}
 use Rattle.inspect.specs.declared.check.Kind.{Kind}
 use Rattle.inspect.specs.declared.check.Kind.the-variants as kind
-use Rattle.assembly.specs.Assembly.{State, opened, step}
+use Rattle.assembly.specs.Assembly.{State, opened, step, outcome, complete, heldBytes}
 use Rattle.assembly.specs.declared.Key.{Key}
 use Rattle.assembly.specs.View.{recordOf, piece}
 use Rattle.assembly.specs.Answers.{replyOf, standingOf}
 use Rattle.assembly.specs.Carried.{keyOf, sameKey, broken, fitAnswer, keyedAnswer, headAnswer, pieceOf, pieceAnswer}
 use Rattle.assembly.specs.Calls.{sized, usable, openAnswer, takeAnswer, ready, putAnswer, standsAnswer}
+use Rattle.table.specs.declared.Slot.{Slot}
+use Rattle.table.specs.declared.Found.{Found}
+use Rattle.table.specs.declared.Found.the-variants.{At, Absent}
+use Rattle.table.specs.Slots.{slotBytes, stateAt, keyFrom, freeFrom, tableFits}
+use Rattle.table.specs.Table.{openedAt, placedAt, placeFor, steppedBy, pieceFor, tableTake, heldFor, discardAnswer, outing, outAnswer}
 use Rattle.packet.specs.Headroom.{mostEnd, valid, leads}
 use Rattle.packet.specs.Answers.{ifValid, lowerAnswer, copyAnswer}
 use Rattle.packet.specs.declared.Packet.{Packet}
@@ -185,6 +190,48 @@ open-in C M k p m = unless _ (sized C M p m) 11 _ refl (accepted (opened k C M))
 pub stands-in : (ok : Bool) (s : State) → Among (11 ∷ []) (standsAnswer ok s)
 stands-in ok s = unless _ ok 11 _ refl (accepted (standingOf s))
 
+-- ---- a table
+
+-- the lowest slot with the key, else the lowest free one, or 19
+placed-in : (ns : List ℕ) → isIn 19 ns ≡ true → (t : List Slot) (d m : List ℕ) (k : Key) → Among ns (placeFor t d m k)
+placed-in ns nineteen t d m k = go (keyFrom 0 k t)
+  where
+    opens : (e : Found) → Among ns (openedAt k e)
+    opens (At i) = accepted _
+    opens Absent = number 19 nineteen
+
+    go : (f : Found) → Among ns (placedAt t d m k f)
+    go (At i) = accepted _
+    go Absent = opens (freeFrom 0 t)
+
+tabled-in : (t : List Slot) (d m l : List ℕ) → Among (11 ∷ 4 ∷ 5 ∷ 6 ∷ 7 ∷ 9 ∷ 20 ∷ 19 ∷ []) (tableTake t d m l)
+unfolding tableTake pieceFor
+tabled-in t d m l =
+    unless ns (tableFits t (length d) (length m)) 11 _ refl
+    (then-in ns (readAnswer l) _ (read-in ns refl refl refl refl l)
+    (λ h. let n : ℕ = length (dataOf h l) in
+    then-in ns (fitAnswer slotBytes 20 n h) _ (piece-in ns slotBytes 20 n h refl refl) (λ g. mapped-in ns (steppedBy (pieceOf l h)) _ (placed-in ns refl t d m (keyOf h)))))
+  where
+    ns : List ℕ
+    ns = 11 ∷ 4 ∷ 5 ∷ 6 ∷ 7 ∷ 9 ∷ 20 ∷ 19 ∷ []
+
+-- the slot with the key, or 27
+found-in : (ns : List ℕ) → isIn 27 ns ≡ true → (f : Found) → Among ns (heldFor f)
+found-in ns h (At i) = accepted i
+found-in ns h Absent = number 27 h
+
+out-in : (t : List Slot) (d m : List ℕ) (k : Key) (room : ℕ) → Among (11 ∷ 27 ∷ 3 ∷ []) (outAnswer t d m k room)
+unfolding outAnswer
+out-in t d m k room =
+    unless _ (tableFits t (length d) (length m)) 11 _ refl
+    (then-in _ (heldFor (keyFrom 0 k t)) _ (found-in _ refl (keyFrom 0 k t))
+    (λ i. let n : ℕ = length (heldBytes (stateAt t d m i)) in
+    unless _ (complete (stateAt t d m i)) 27 _ refl (mapped-in _ (λ n. outing (stateAt t d m i) i) (fitting n room) (refusing _ (ltb room n) 3 _ refl (accepted n)))))
+
+discard-in : (t : List Slot) (d m : ℕ) (k : Key) → Among (11 ∷ 27 ∷ []) (discardAnswer t d m k)
+unfolding discardAnswer
+discard-in t d m k = unless _ (tableFits t d m) 11 _ refl (found-in _ refl (keyFrom 0 k t))
+
 -- ---- capturing, and a packet with headroom
 
 pub record-in : (n usec room : ℕ) → Among (1 ∷ 17 ∷ 3 ∷ []) (recordAnswer n usec room)
@@ -221,6 +268,9 @@ numbered =
       placing = λ C far n h r e. told _ _ _ e (piece-in _ C far n h refl (second-in 9 far));
       putting = λ s h b r d m x. told _ _ _ (x .answer) (mapped-in _ replyOf _ (put-in s h b));
       progressing = λ ok s r e. told _ _ _ e (stands-in ok s);
+      tabling = λ t d m l r d′ m′ x. told _ _ _ (x .answer) (mapped-in _ (λ y. outcome (y .state)) _ (tabled-in t d m l));
+      taking-out = λ t d m k o r d′ m′ o′ x. told _ _ _ (x .answer) (mapped-in _ (λ y. length (y .datagram)) _ (out-in t d m k (length o)));
+      discarding = λ t d m k r d′ m′ x. told _ _ _ (x .answer) (mapped-in _ (λ i. 0) _ (discard-in t (length d) (length m) k));
       framing = λ l r e. told _ _ _ e (frame-in _ refl refl refl l);
       reading = λ l r e. told _ _ _ e (read-in _ refl refl refl refl l);
       examining = λ l r e. told _ _ _ e (examine-in l);

@@ -9,10 +9,13 @@ use Rattle.pkt.specs.Written.{leaves}
 use Rattle.ezpkt.specs.Build.{answerOf, packetOf}
 use Rattle.ezpkt.specs.Icmp4.{echoGone}
 use Rattle.packet.proofs.Answers.{kept}
-use Rattle.assembly.specs.Assembly.{State}
+use Rattle.assembly.specs.Assembly.{State, outcome}
 use Rattle.assembly.specs.View.{view, recordOf}
 use Rattle.assembly.specs.Answers.{replyOf, payloadAfter, mapAfter}
 use Rattle.assembly.specs.Calls.{openAnswer, takeAnswer, putAnswer}
+use Rattle.table.specs.declared.Slot.{Slot}
+use Rattle.table.specs.Slots.{slotBytes, slotMap}
+use Rattle.table.specs.Table.{Placing, tableTake, slotsAfter, payloadsAfter, mapsAfter, Outing, outAnswer, slotIn, datagramIn, discardAnswer, slotsWithout, partWithout}
 use Rattle.demands.specs.Refusals.{RefusedKeep}
 
 -- a refusal stays one under what is made of the answer
@@ -35,6 +38,23 @@ both-left : (a : Answer ℕ) (n : ℕ) (k l o e o′ e′ : List ℕ) → refuse
     → (o′ ≡ o) × (e′ ≡ e)
 both-left a n k l o e o′ e′ r q =
     (left a n k o o′ r (ap (λ (b : List ℕ × List ℕ). b .0) q), left a n l e e′ r (ap (λ (b : List ℕ × List ℕ). b .1) q))
+
+-- what it leaves of a table and its buffers, where an answer gives a slot with its state, or a slot to be emptied
+placing-left : (a : Answer Placing) (n : ℕ) (t t′ : List Slot) (d m d′ m′ : List ℕ) → refused n ≡ a → t′ ≡ slotsAfter a t → d′ ≡ payloadsAfter a d → m′ ≡ mapsAfter a m
+    → (t′ ≡ t) × (d′ ≡ d) × (m′ ≡ m)
+placing-left a n t t′ d m d′ m′ e s u v = (
+  s ∙ ap (λ (b : Answer Placing). slotsAfter b t) (sym e),
+  u ∙ ap (λ (b : Answer Placing). payloadsAfter b d) (sym e),
+  v ∙ ap (λ (b : Answer Placing). mapsAfter b m) (sym e),
+)
+
+slot-left : (a : Answer ℕ) (n : ℕ) (t t′ : List Slot) (d m d′ m′ : List ℕ) → refused n ≡ a → t′ ≡ slotsWithout a t → d′ ≡ partWithout slotBytes a d
+    → m′ ≡ partWithout slotMap a m → (t′ ≡ t) × (d′ ≡ d) × (m′ ≡ m)
+slot-left a n t t′ d m d′ m′ e s u v = (
+  s ∙ ap (λ (b : Answer ℕ). slotsWithout b t) (sym e),
+  u ∙ ap (λ (b : Answer ℕ). partWithout slotBytes b d) (sym e),
+  v ∙ ap (λ (b : Answer ℕ). partWithout slotMap b m) (sym e),
+)
 
 -- Demand 1: "A refused call changes no lent byte, no flow and no assembly."
 pub refused-keep : RefusedKeep
@@ -63,6 +83,20 @@ refused-keep =
           let a = putAnswer (view r d m) h b in
           let e = mapped-refused replyOf a n (x .answer) in
           (payload-left a n d d′ e (x .payload-is), map-left a n m m′ e (x .map-is));
+      tabling =
+          λ t d m l r d′ m′ n x e.
+          placing-left (tableTake t d m l) n t (r .table) d m d′ m′ (mapped-refused (λ y. outcome (y .state)) _ n (sym e ∙ x .answer)) (x .slots-are)
+          (x .payloads-are) (x .maps-are);
+      taking-out =
+          λ t d m k o r d′ m′ o′ n x e.
+          let a = outAnswer t d m k (length o) in
+          let q : refused n ≡ a = mapped-refused (λ y. length (y .datagram)) a n (sym e ∙ x .answer) in
+          let l = slot-left (slotIn a) n t (r .table) d m d′ m′ (ap slotIn q) (x .slots-are) (x .payloads-are) (x .maps-are) in
+          (l .0, l .1, l .2, x .output-is ∙ ap (λ (b : Answer Outing). datagramIn b o) (sym q));
+      discarding =
+          λ t d m k r d′ m′ n x e.
+          slot-left (discardAnswer t (length d) (length m) k) n t (r .table) d m d′ m′ (mapped-refused (λ i. 0) _ n (sym e ∙ x .answer)) (x .slots-are)
+          (x .payloads-are) (x .maps-are);
       making = λ h b b′ n x. x .after ∙ kept _ n _ b (sym (x .answer));
       appending = λ p k d b b′ n x. x .after ∙ kept _ n _ b (sym (x .answer));
       prepending = λ p d b b′ n x. x .after ∙ kept _ n _ b (sym (x .answer));

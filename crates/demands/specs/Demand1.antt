@@ -1,4 +1,4 @@
--- Demand 1, over the promises of every public call of the library crates but `table`. That a call answers on all input needs no statement: no public
+-- Demand 1, over the promises of every public call of the library crates. That a call answers on all input needs no statement: no public
 -- function has a requires clause, and each is proved to return.
 use Rattle.demands.specs.Numbers.{Numbered}
 use Rattle.demands.specs.Refusals.{RefusedKeep}

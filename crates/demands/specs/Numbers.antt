@@ -40,6 +40,11 @@ use Rattle.assembly.specs.declared.step.Progress.{Progress}
 use Rattle.assembly.specs.Answers.{openedSays, takenSays, progressSays}
 use Rattle.assembly.specs.Carried.{fitAnswer}
 use Rattle.assembly.specs.Calls.{Opens, Takes, Puts, standsAnswer}
+use Rattle.table.specs.Table.{steppedSays, tableTake, Tables, outSays, TakesOut, goneSays, Discards}
+use Rattle.table.specs.declared.Slot.{Slot}
+use Rattle.table.specs.declared.Placed.{Placed}
+use Rattle.table.specs.declared.TakenOut.{TakenOut}
+use Rattle.table.specs.declared.Discarded.{Discarded}
 use Rattle.packet.specs.Answers as packet
 use Rattle.packet.specs.declared.Packet.{Packet}
 use Rattle.packet.specs.declared.PktSlice.{PktSlice}
@@ -100,6 +105,14 @@ pub record Numbered : Type 0 where
   pub putting : (s : State) (h : IpRead) (b : List ℕ) (r : Taken) (d m : List ℕ) → Puts s h b r d m → Among (11 ∷ 9 ∷ 10 ∷ []) (takenSays r)
   -- and 11 by `progress` and `any::progress`
   pub progressing : (ok : Bool) (s : State) (r : Progress) → progressSays r ≡ standsAnswer ok s → Among (11 ∷ []) (progressSays r)
+  -- Document 02, T-03: a table's `take` gives 11, 4, 5, 6, 7, 9, 20 and 19: "8 does not arise here", nor does 10;
+  pub tabling : (t : List Slot) (d m l : List ℕ) (r : Placed) (d′ m′ : List ℕ) → Tables (tableTake t d m l) t d m r d′ m′
+      → Among (11 ∷ 4 ∷ 5 ∷ 6 ∷ 7 ∷ 9 ∷ 20 ∷ 19 ∷ []) (steppedSays (r .answer))
+  -- "for taking, 11, 27 .., 3; for discarding, 11, 27": `take_out`, `discard`
+  pub taking-out : (t : List Slot) (d m : List ℕ) (k : Key) (o : List ℕ) (r : TakenOut) (d′ m′ o′ : List ℕ) → TakesOut t d m k o r d′ m′ o′
+      → Among (11 ∷ 27 ∷ 3 ∷ []) (outSays (r .answer))
+  pub discarding : (t : List Slot) (d m : List ℕ) (k : Key) (r : Discarded) (d′ m′ : List ℕ) → Discards t d m k r d′ m′
+      → Among (11 ∷ 27 ∷ []) (goneSays (r .answer))
   -- "Packet check 4, 5, 6, 4, 7, 13, 12, 14, 15", and its parts: `frame`,
   pub framing : (l : List ℕ) (r : Seen) → readSays r ≡ frameAnswer l → Among (4 ∷ 5 ∷ 6 ∷ []) (readSays r)
   -- `header::read`,

@@ -3,7 +3,7 @@ use mathlib.Core.Path.{_≡_}
 use mathlib.Core.Bool.{Bool}
 use mathlib.Core.List.{List}
 use Prim.Native.Nat.{ℕ}
-use Rattle.pkt.specs.Answers.{Answer}
+use Rattle.pkt.specs.Answers.{Answer, refused}
 use Rattle.ezpkt.specs.Build.{Answered}
 use Rattle.ezpkt.specs.Icmp4.{Echoed}
 use Rattle.tcp4.specs.Tcp4.{Emit, Sends}
@@ -24,6 +24,11 @@ use Rattle.assembly.specs.declared.Opened.the-variants as opened
 use Rattle.assembly.specs.declared.Taken.the-variants as taken
 use Rattle.assembly.specs.View.{view}
 use Rattle.assembly.specs.Calls.{Opens, Takes, Puts}
+use Rattle.table.specs.Table.{steppedSays, tableTake, Tables, outSays, TakesOut, goneSays, Discards}
+use Rattle.table.specs.declared.Slot.{Slot}
+use Rattle.table.specs.declared.Placed.{Placed}
+use Rattle.table.specs.declared.TakenOut.{TakenOut}
+use Rattle.table.specs.declared.Discarded.{Discarded}
 use Rattle.packet.specs.Answers.{MadeNew, Appended, Prepended, CopiedOut}
 use Rattle.packet.specs.declared.Packet.{Packet}
 use Rattle.packet.specs.declared.Made.the-variants as made
@@ -33,8 +38,9 @@ use Rattle.pkt.specs.Written.{Wrote}
 use Rattle.pcap.specs.Answers.{capturedSays}
 use Rattle.pcap.specs.declared.Captured.the-variants as captured
 
--- Every call of the library crates but `table` that is lent bytes to write, by the contract that it has. n is the refusal's number. A refusal hands no flow
--- and no assembly's record back, because it holds its number only: its type alone says that the caller goes on with what it has.
+-- Every call of the library crates that is lent bytes to write, by the contract that it has. n is the refusal's number. A refusal hands no flow
+-- and no assembly's record back, because it holds its number only: its type alone says that the caller goes on with what it has. A table goes
+-- by value and comes back with the answer: after a refusal as it was.
 pub record RefusedKeep : Type 0 where
   -- `build`, `fragment`, `tail`, `datagram`, `client_dgram`, `server_dgram`: the output
   pub building : (q : Request) (p o o′ : List ℕ) (n : ℕ) → Answered q p o (built.Refused n) o′ → o′ ≡ o
@@ -54,6 +60,15 @@ pub record RefusedKeep : Type 0 where
   pub taking : (C M : ℕ) (r : Rec) (d m l d′ m′ : List ℕ) (n : ℕ) → Takes C M (view r d m) l (taken.Refused n) d′ m′ → (d′ ≡ d) × (m′ ≡ m)
   -- `any::put`: both buffers
   pub putting : (r : Rec) (h : IpRead) (d m b d′ m′ : List ℕ) (n : ℕ) → Puts (view r d m) h b (taken.Refused n) d′ m′ → (d′ ≡ d) × (m′ ≡ m)
+  -- a table's `take`: the table and both buffers,
+  pub tabling : (t : List Slot) (d m l : List ℕ) (r : Placed) (d′ m′ : List ℕ) (n : ℕ) → Tables (tableTake t d m l) t d m r d′ m′
+      → steppedSays (r .answer) ≡ refused n → (r .table ≡ t) × (d′ ≡ d) × (m′ ≡ m)
+  -- `take_out`: the output too,
+  pub taking-out : (t : List Slot) (d m : List ℕ) (k : Key) (o : List ℕ) (r : TakenOut) (d′ m′ o′ : List ℕ) (n : ℕ) → TakesOut t d m k o r d′ m′ o′
+      → outSays (r .answer) ≡ refused n → (r .table ≡ t) × (d′ ≡ d) × (m′ ≡ m) × (o′ ≡ o)
+  -- and `discard`
+  pub discarding : (t : List Slot) (d m : List ℕ) (k : Key) (r : Discarded) (d′ m′ : List ℕ) (n : ℕ) → Discards t d m k r d′ m′
+      → goneSays (r .answer) ≡ refused n → (r .table ≡ t) × (d′ ≡ d) × (m′ ≡ m)
   -- `Packet::new`: the buffer
   pub making : (h : ℕ) (b b′ : List ℕ) (n : ℕ) → MadeNew h b (made.Refused n) b′ → b′ ≡ b
   -- `push_slice`, `push_bytes`, `push_hdr`, `push`: the buffer

@@ -21,15 +21,17 @@ use Rattle.assembly.specs.View.{view, recordOf, piece}
 use Rattle.table.specs.declared.Slot.{Slot}
 use Rattle.table.specs.declared.Found.{Found}
 use Rattle.table.specs.declared.Found.the-variants.{At, Absent}
+use Rattle.table.specs.declared.Landing.{Landing}
 use Rattle.table.specs.declared.Placed.{Placed}
 use Rattle.table.specs.declared.Discarded.{Discarded}
 use Rattle.table.specs.declared.Gone.the-variants.{Done}
 use Rattle.table.specs.declared.TakenOut.{TakenOut}
-use Rattle.table.specs.Slots.{slotBytes, slotMap, partOf, withPart, freeSlot, stateAt, keyFrom, freeFrom, tableFits, Sized}
-use Rattle.table.specs.Steps.{FitsSlot, OutOf}
+use Rattle.table.specs.Slots.{slots, slotBytes, slotMap, partOf, withPart, freeSlot, stateAt, keyFrom, freeFrom, tableFits, Sized}
+use Rattle.table.specs.Steps.{landingSays, Lands, FitsSlot, OutOf}
 use Rattle.table.specs.Table.{steppedSays, Placing, placing, openedAt, placedAt, placeFor, steppedBy, pieceFor, tableTake, Tables, goneSays, heldFor, discardAnswer, slotsWithout, partWithout, Discards, outSays, Outing, outOf, outAnswer, slotIn, datagramIn, TakesOut}
 use Rattle.table.proofs.Lowest.{past as past-slot, read-within}
 use Rattle.table.proofs.Parts.{part-back, part-again}
+use Rattle.table.proofs.Stepping.{any-number}
 
 -- equal answers leave the same
 pub tables-as : (a b : Answer Placing) (t : List Slot) (d m : List ℕ) (r : Placed) (d′ m′ : List ℕ) → a ≡ b → Tables b t d m r d′ m′ → Tables a t d m r d′ m′
@@ -38,6 +40,13 @@ tables-as a b t d m r d′ m′ e x = subst (λ (y : Answer Placing). Tables y t
 -- a refusal leaves all as it was
 pub refused-tables : (n : ℕ) (t : List Slot) (d m : List ℕ) (r : Placed) → (r .table ≡ t) × (steppedSays (r .answer) ≡ refused n) → Tables (refused n) t d m r d m
 refused-tables n t d m r e = record { answer = e .1; slots-are = e .0; payloads-are = refl; maps-are = refl }
+
+-- the same before anything is stored
+pub lands-as : (a b : Answer Placing) (d m : List ℕ) (x : Landing) (d′ m′ : List ℕ) → a ≡ b → Lands b d m x d′ m′ → Lands a d m x d′ m′
+lands-as a b d m x d′ m′ e l = subst (λ (y : Answer Placing). Lands y d m x d′ m′) (sym e) l
+
+pub refused-lands : (n : ℕ) (d m : List ℕ) (x : Landing) → (x .slot < slots) × (landingSays x ≡ refused n) → Lands (refused n) d m x d m
+refused-lands n d m x e = record { below = e .0; answer = e .1; payloads-are = refl; maps-are = refl }
 
 -- ---- 9 and 20
 
@@ -49,8 +58,10 @@ fit-same C far n h p e = go (broken (h .mf) n) (ltb C (8 * h .off + n)) e
     go : (a b : Bool) → cond a (refused 9) (cond b (refused far) (gives h)) ≡ gives p → p ≡ h
     go a b q = let x = past a 9 (cond b (refused far) (gives h)) p q in let y = past b far (gives h) p (x .1) in sym (cc (y .1))
 
-pub fits-slot : (n : ℕ) (h p : IpRead) → fitAnswer slotBytes 20 n h ≡ gives p → FitsSlot p n
-fits-slot n h p e = ap (fitAnswer slotBytes 20 n) (fit-same slotBytes 20 n h p e) ∙ e
+pub fits-slot : (far n : ℕ) (h p : IpRead) → fitAnswer slotBytes far n h ≡ gives p → FitsSlot p n
+fits-slot far n h p e =
+    let same = fit-same slotBytes far n h p e in
+    any-number slotBytes far 20 n p (ap (fitAnswer slotBytes far n) same ∙ e)
 
 module _ (t : List Slot) (d m : List ℕ) (h : IpRead) (b : List ℕ) where
   pub piece-refused : (n : ℕ) → fitAnswer slotBytes 20 (length b) h ≡ refused n → pieceFor t d m h b ≡ refused n
@@ -99,11 +110,11 @@ module _ (t : List Slot) (d m : List ℕ) (k : Key) (p : Piece) where
   new-at i e = ap (λ (f : Found). mapped (steppedBy p) (openedAt k f)) e
 
 -- A step on slot i once it was opened is the step on an opened assembly.
-pub opened-step : (t : List Slot) (d m d₁ m₁ : List ℕ) (k : Key) (x : Rec) (i : ℕ) (p : Piece) (r : Placed) (d′ m′ : List ℕ) → Sized i (length d) (length m)
+pub opened-step : (d m d₁ m₁ : List ℕ) (k : Key) (x : Rec) (i : ℕ) (p : Piece) (r : Landing) (d′ m′ : List ℕ) → Sized i (length d) (length m)
     → x ≡ recordOf (opened k slotBytes slotMap) → d₁ ≡ withPart slotBytes i (zeros slotBytes) d → m₁ ≡ withPart slotMap i (zeros slotMap) m
-    → Tables (gives (placing i (step (view x (partOf slotBytes i d₁) (partOf slotMap i m₁)) p))) t d₁ m₁ r d′ m′
-    → Tables (gives (placing i (step (opened k slotBytes slotMap) p))) t d m r d′ m′
-opened-step t d m d₁ m₁ k x i p r d′ m′ at ex ed em y =
+    → Lands (gives (placing i (step (view x (partOf slotBytes i d₁) (partOf slotMap i m₁)) p))) d₁ m₁ r d′ m′
+    → Lands (gives (placing i (step (opened k slotBytes slotMap) p))) d m r d′ m′
+opened-step d m d₁ m₁ k x i p r d′ m′ at ex ed em y =
     let zd : length (zeros slotBytes) ≡ slotBytes = length-replicate {A = ℕ} slotBytes 0 in
     let zm : length (zeros slotMap) ≡ slotMap = length-replicate {A = ℕ} slotMap 0 in
     let id : slotBytes * i ≤ length d = omega (arith, at .one, at .payloads) in
@@ -114,20 +125,20 @@ opened-step t d m d₁ m₁ k x i p r d′ m′ at ex ed em y =
     ap (λ (z : Rec). view z (partOf slotBytes i d₁) (partOf slotMap i m₁)) ex
     ∙ ap (λ (z : List ℕ). view (recordOf (opened k slotBytes slotMap)) z (partOf slotMap i m₁)) pd
     ∙ ap (λ (z : List ℕ). view (recordOf (opened k slotBytes slotMap)) (zeros slotBytes) z) pm in
-    let w = tables-as _ _ t d₁ m₁ r d′ m′ (ap (λ (z : State). gives (placing i (step z p))) (sym s)) y in
+    let w = lands-as _ _ d₁ m₁ r d′ m′ (ap (λ (z : State). gives (placing i (step z p))) (sym s)) y in
     record {
+      below = w .below;
       answer = w .answer;
-      slots-are = w .slots-are;
       payloads-are = w .payloads-are ∙ ap (withPart slotBytes i _) ed ∙ part-again slotBytes i (zeros slotBytes) _ d zd id;
       maps-are = w .maps-are ∙ ap (withPart slotMap i _) em ∙ part-again slotMap i (zeros slotMap) _ m zm im;
     }
 
 -- A step on the slot that the kit reads at i is the step on slot i.
-pub read-step : (t : List Slot) (d m : List ℕ) (i : ℕ) (p : Piece) (r : Placed) (d′ m′ : List ℕ) → i < length t
-    → Tables (gives (placing i (step (view (getD t i past-slot .rec) (partOf slotBytes i d) (partOf slotMap i m)) p))) t d m r d′ m′
-    → Tables (gives (placing i (step (stateAt t d m i) p))) t d m r d′ m′
+pub read-step : (t : List Slot) (d m : List ℕ) (i : ℕ) (p : Piece) (r : Landing) (d′ m′ : List ℕ) → i < length t
+    → Lands (gives (placing i (step (view (getD t i past-slot .rec) (partOf slotBytes i d) (partOf slotMap i m)) p))) d m r d′ m′
+    → Lands (gives (placing i (step (stateAt t d m i) p))) d m r d′ m′
 read-step t d m i p r d′ m′ lt x =
-    subst (λ (s : Slot). Tables (gives (placing i (step (view (s .rec) (partOf slotBytes i d) (partOf slotMap i m)) p))) t d m r d′ m′) (read-within t i lt) x
+    subst (λ (s : Slot). Lands (gives (placing i (step (view (s .rec) (partOf slotBytes i d) (partOf slotMap i m)) p))) d m r d′ m′) (read-within t i lt) x
 
 -- ---- discarding
 

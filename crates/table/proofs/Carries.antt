@@ -1,22 +1,24 @@
 -- The piece that a packet carries, and those of one key that packets carry.
 use mathlib.Core.Path.{_≡_, refl, sym, ap, subst, _∙_}
 use mathlib.Core.Bool.{Bool, true, false, cond}
-use mathlib.Core.List.{List, [], _∷_, _++_, List·Memᴰ, List·Memᴰ·head, List·Memᴰ·tail}
-use Prim.Native.Nat.{ℕ}
+use mathlib.Core.List.{List, [], _∷_, _++_, List·Memᴰ·head, List·Memᴰ·tail}
+use Prim.Native.Nat.{ℕ, _+_, _*_}
 use native.Mathlib.Omega.{arith}
 use lib.ListN.{length}
+use lib.Dec.{ltb}
 use Rattle.pkt.specs.Answers.{Answer, refused, gives, andThen, mapped}
-use Rattle.pkt.proofs.Choice.{pick-yes}
+use Rattle.pkt.proofs.Choice.{pick-yes, pick-no}
 use Rattle.inspect.specs.Header.{readAnswer, dataOf}
 use Rattle.inspect.specs.declared.header.IpRead.{IpRead}
 use Rattle.assembly.specs.declared.Key.{Key}
-use Rattle.assembly.specs.Piece.{Acceptable}
-use Rattle.assembly.specs.Carried.{keyOf, sameKey, fitAnswer, pieceOf}
-use Rattle.assembly.proofs.Carrying.{fitted}
+use Rattle.assembly.specs.Piece.{Piece, Acceptable}
+use Rattle.assembly.specs.Carried.{keyOf, sameKey, broken, fitAnswer, keyedAnswer, headAnswer, pieceOf, pieceAnswer}
+use Rattle.assembly.proofs.Carrying.{fitted, is-same}
+use Rattle.assembly.proofs.Delivers as handed
 use Rattle.table.specs.declared.Slot.{Slot}
 use Rattle.table.specs.Slots.{slotBytes, tableFits}
 use Rattle.table.specs.Table.{Placing, placeFor, steppedBy, pieceFor, tableTake}
-use Rattle.table.specs.Mixed.{Keyed, keyedIn, ownOf, piecesOf}
+use Rattle.table.specs.Mixed.{Keyed, keyedIn, ownOf, piecesOf, Carried}
 use Rattle.table.proofs.Keys.{same-is}
 use Rattle.table.proofs.Held.{added}
 
@@ -67,6 +69,64 @@ keyed-acceptable l x e = go (readAnswer l) e
     go (refused n) q = let z : _≡_ {A = ℕ} 0 1 = cc in absurd (omega arith)
     go (gives h) q = behind h (fitHere l h) refl q
 
+-- ---- an assembly of the key k is handed the same pieces
+
+own-piece : (k : Key) (l : List ℕ) (ps : List Piece) → ownOf k (keyedIn l) ps ≡ handed.added (pieceAnswer slotBytes k l) ps
+unfolding keyedIn pieceAnswer headAnswer keyedAnswer fitAnswer handed.added
+own-piece k l ps = go (readAnswer l)
+  where
+    other : (h : IpRead) → sameKey (keyOf h) k ≡ false → (a : Answer IpRead) → ownOf k (mapped (λ g. keyed l h) a) ps ≡ ps
+    other h e (refused n) = refl
+    other h e (gives g) = pick-no _ _ e
+
+    own : (h : IpRead) → sameKey (keyOf h) k ≡ true → (nine far : Bool)
+        → ownOf k (mapped (λ g. keyed l h) (cond nine (refused 9) (cond far (refused 20) (gives h)))) ps
+        ≡ handed.added (mapped (pieceOf l) (cond nine (refused 9) (cond far (refused 10) (gives h)))) ps
+    own h e true far = refl
+    own h e false true = refl
+    own h e false false = pick-yes _ _ e
+
+    keys : (h : IpRead) (b : Bool) → sameKey (keyOf h) k ≡ b → ownOf k (mapped (λ g. keyed l h) (fitHere l h)) ps
+        ≡ handed.added (andThen (cond b (gives h) (refused 8)) (λ g. mapped (pieceOf l) (fitAnswer slotBytes 10 (length (dataOf g l)) g))) ps
+    keys h true e = own h e (broken (h .mf) (length (dataOf h l))) (ltb slotBytes (8 * h .off + length (dataOf h l)))
+    keys h false e = other h e (fitHere l h)
+
+    go : (a : Answer IpRead) → ownOf k (keyedBy l a) ps
+        ≡ handed.added (andThen (andThen a (keyedAnswer k)) (λ g. mapped (pieceOf l) (fitAnswer slotBytes 10 (length (dataOf g l)) g))) ps
+    go (refused n) = refl
+    go (gives h) = keys h (sameKey (keyOf h) k) refl
+
+pub own-pieces : (k : Key) (ls : List (List ℕ)) → piecesOf k ls ≡ handed.piecesOf slotBytes k ls
+unfolding piecesOf handed.piecesOf
+own-pieces k [] = refl
+own-pieces k (l ∷ ls) = ap (ownOf k (keyedIn l)) (own-pieces k ls) ∙ own-piece k l (handed.piecesOf slotBytes k ls)
+
+-- a piece that such an assembly is handed is the table's
+pub piece-keyed : (k : Key) (l : List ℕ) (p : Piece) → pieceAnswer slotBytes k l ≡ gives p → (x : Keyed) × (keyedIn l ≡ gives x) × (x .key ≡ k) × (x .piece ≡ p)
+unfolding handed.added
+piece-keyed k l p e =
+    go (keyedIn l) refl (own-piece k l [] ∙ ap (λ (a : Answer Piece). handed.added a []) e)
+  where
+    own : (x : Keyed) → keyedIn l ≡ gives x → (b : Bool) → sameKey (x .key) k ≡ b → cond b (x .piece ∷ []) [] ≡ p ∷ []
+        → (y : Keyed) × (keyedIn l ≡ gives y) × (y .key ≡ k) × (y .piece ≡ p)
+    own x q true s r = let z : x .piece ≡ p = cc in (x, q, same-is (x .key) k s, z)
+    own x q false s r = let z : _≡_ {A = ℕ} 0 1 = cc in absurd (omega arith)
+
+    go : (a : Answer Keyed) → keyedIn l ≡ a → ownOf k a [] ≡ p ∷ [] → (y : Keyed) × (keyedIn l ≡ gives y) × (y .key ≡ k) × (y .piece ≡ p)
+    go (refused n) q r = let z : _≡_ {A = ℕ} 0 1 = cc in absurd (omega arith)
+    go (gives x) q r = own x q (sameKey (x .key) k) refl r
+
+-- .. and back
+pub keyed-piece : (l : List ℕ) (x : Keyed) → keyedIn l ≡ gives x → pieceAnswer slotBytes (x .key) l ≡ gives (x .piece)
+unfolding handed.added
+keyed-piece l x e =
+    go (pieceAnswer slotBytes (x .key) l) refl
+    (sym (own-piece (x .key) l []) ∙ ap (λ (a : Answer Keyed). ownOf (x .key) a []) e ∙ pick-yes _ _ (is-same (x .key) (x .key) refl))
+  where
+    go : (a : Answer Piece) → pieceAnswer slotBytes (x .key) l ≡ a → handed.added a [] ≡ x .piece ∷ [] → pieceAnswer slotBytes (x .key) l ≡ gives (x .piece)
+    go (refused n) q r = let z : _≡_ {A = ℕ} 0 1 = cc in absurd (omega arith)
+    go (gives p) q r = let z : p ≡ x .piece = cc in q ∙ ap gives z
+
 -- ---- a packet behind others
 
 -- one that carries no piece
@@ -92,14 +152,6 @@ pieces-more (y ∷ ls) l x e k = front (keyedIn y) (sameKey (x .key) k) ∙ ap (
             ≡ cond c (z .piece ∷ (piecesOf k ls ++ (x .piece ∷ []))) (piecesOf k ls ++ (x .piece ∷ []))
         inner true = refl
         inner false = refl
-
--- one of the packets carries a piece of the key k
-pub record Carried (k : Key) (ls : List (List ℕ)) : Type 0 where
-  pub packet : List ℕ
-  pub told : Keyed
-  pub within : List·Memᴰ packet ls
-  pub carries : keyedIn packet ≡ gives told
-  pub key-is : told .key ≡ k
 
 -- where there is a piece, one does
 pub carried-by : (k : Key) (ls : List (List ℕ)) → (piecesOf k ls ≡ [] → ⊥) → Carried k ls

@@ -1,7 +1,7 @@
 -- The slots that are occupied, by their keys: what looking for a key or for a free slot tells, and when no slot refuses a table.
 use mathlib.Core.Path.{_≡_, refl, sym, ap, _∙_}
 use mathlib.Core.Logic.{_≢_}
-use mathlib.Core.Bool.{Bool, true, false, cond}
+use mathlib.Core.Bool.{Bool, true, false, cond, true≢false}
 use mathlib.Core.List.{List, [], _∷_}
 use Prim.Native.Nat.{ℕ, zero, suc, _+_, _<_}
 use native.Mathlib.Omega.{arith}
@@ -10,13 +10,12 @@ use lib.Seq.{getD-set-same, getD-set-other}
 use borrow.Author.Tests.{eqb-true}
 use Rattle.pkt.proofs.Choice.{and-both, both, pick-yes, pick-no}
 use Rattle.assembly.specs.declared.Key.{Key}
-use Rattle.assembly.specs.Assembly.{State}
 use Rattle.assembly.specs.Carried.{sameKey}
 use Rattle.assembly.proofs.Carrying.{is-same}
 use Rattle.table.specs.declared.Slot.{Slot}
 use Rattle.table.specs.declared.Found.{Found}
 use Rattle.table.specs.declared.Found.the-variants.{At, Absent}
-use Rattle.table.specs.Slots.{freeSlot, slotOf, holdsKey, keyFrom, freeFrom, slotFits, allFit, found, keyAgain, keyTwice}
+use Rattle.table.specs.Slots.{freeSlot, holdsKey, keyFrom, freeFrom, slotFits, allFit, found, keyAgain, keyTwice}
 
 -- two keys that are told to be the same are equal
 pub same-is : (a b : Key) → sameKey a b ≡ true → a ≡ b
@@ -57,25 +56,27 @@ none-has zero i k h = both (h .used) refl
 none-has (suc n) zero k h = both (h .used) refl
 none-has (suc n) (suc i) k h = none-has n i k (has-rest h)
 
--- ---- a slot is stored: it has the state's key, and every other slot has the key that it had
-module _ (t : List Slot) (i : ℕ) (s : State) where
-  pub has-stored : (k : Key) → i < length t → Has (set t i (slotOf s)) i k → s .key ≡ k
-  has-stored k h p = sym (ap (λ (x : Slot). x .rec .key) (getD-set-same t i (slotOf s) freeSlot h)) ∙ p .key-is
+-- ---- a slot x is stored: it has its own key, and every other slot has the key that it had
+module _ (t : List Slot) (i : ℕ) (x : Slot) where
+  pub has-stored : (k : Key) → i < length t → Has (set t i x) i k → (x .used ≡ true) × (x .rec .key ≡ k)
+  has-stored k h p =
+      let e = getD-set-same t i x freeSlot h in
+      (sym (ap (λ (y : Slot). y .used) e) ∙ p .used, sym (ap (λ (y : Slot). y .rec .key) e) ∙ p .key-is)
 
-  pub stored-has : i < length t → Has (set t i (slotOf s)) i (s .key)
-  stored-has h =
-      let e = getD-set-same t i (slotOf s) freeSlot h in
-      record { used = ap (λ (x : Slot). x .used) e; key-is = ap (λ (x : Slot). x .rec .key) e }
+  pub stored-has : i < length t → x .used ≡ true → Has (set t i x) i (x .rec .key)
+  stored-has h u =
+      let e = getD-set-same t i x freeSlot h in
+      record { used = ap (λ (y : Slot). y .used) e ∙ u; key-is = ap (λ (y : Slot). y .rec .key) e }
 
-  pub has-other : (j : ℕ) (k : Key) → j ≢ i → Has (set t i (slotOf s)) j k → Has t j k
+  pub has-other : (j : ℕ) (k : Key) → j ≢ i → Has (set t i x) j k → Has t j k
   has-other j k ne p =
-      let e = getD-set-other t i j (slotOf s) freeSlot ne in
-      record { used = sym (ap (λ (x : Slot). x .used) e) ∙ p .used; key-is = sym (ap (λ (x : Slot). x .rec .key) e) ∙ p .key-is }
+      let e = getD-set-other t i j x freeSlot ne in
+      record { used = sym (ap (λ (y : Slot). y .used) e) ∙ p .used; key-is = sym (ap (λ (y : Slot). y .rec .key) e) ∙ p .key-is }
 
-  pub other-has : (j : ℕ) (k : Key) → j ≢ i → Has t j k → Has (set t i (slotOf s)) j k
+  pub other-has : (j : ℕ) (k : Key) → j ≢ i → Has t j k → Has (set t i x) j k
   other-has j k ne p =
-      let e = getD-set-other t i j (slotOf s) freeSlot ne in
-      record { used = ap (λ (x : Slot). x .used) e ∙ p .used; key-is = ap (λ (x : Slot). x .rec .key) e ∙ p .key-is }
+      let e = getD-set-other t i j x freeSlot ne in
+      record { used = ap (λ (y : Slot). y .used) e ∙ p .used; key-is = ap (λ (y : Slot). y .rec .key) e ∙ p .key-is }
 
 -- ---- looking for a key
 
@@ -155,7 +156,7 @@ free-found t i e =
     rw z at (p .2)
 
 -- where none is found, all are occupied
-all-used : (n : ℕ) (t : List Slot) → freeFrom n t ≡ Absent → (j : ℕ) → j < length t → getD t j freeSlot .used ≡ true
+pub all-used : (n : ℕ) (t : List Slot) → freeFrom n t ≡ Absent → (j : ℕ) → j < length t → getD t j freeSlot .used ≡ true
 unfolding freeFrom
 all-used n [] e j h = absurd (omega arith)
 all-used n (s ∷ ss) e j h = go (s .used) refl j h (λ q i. all-used (suc n) ss q i)
@@ -209,3 +210,25 @@ pub no-twice : (t : List Slot) → Distinct t → keyTwice t ≡ false
 unfolding keyTwice
 no-twice [] h = refl
 no-twice (s ∷ ss) h = pick-no _ _ (not-again s ss h) ∙ no-twice ss (distinct-rest s ss h)
+
+-- .. and where none is in two, they are distinct
+again-not : (s : Slot) (ss : List Slot) → keyAgain s ss ≡ false → (j : ℕ) (k : Key) → s .used ≡ true → s .rec .key ≡ k → Has ss j k → ⊥
+unfolding keyAgain
+again-not s ss e j k u q h = go (keyFrom 0 (s .rec .key) ss) refl
+  where
+    go : (f : Found) → keyFrom 0 (s .rec .key) ss ≡ f → ⊥
+    go Absent a = key-absent 0 (s .rec .key) ss a j (record { used = h .used; key-is = h .key-is ∙ sym q })
+    go (At i) a = both (ap found a) (sym (pick-yes _ _ u) ∙ e)
+
+pub once-distinct : (t : List Slot) → keyTwice t ≡ false → Distinct t
+unfolding keyTwice Distinct
+once-distinct [] e = λ i j k a b. absurd (both (a .used) refl)
+once-distinct (s ∷ ss) e = go (keyAgain s ss) refl (λ q. once-distinct ss q)
+  where
+    go : (b : Bool) → keyAgain s ss ≡ b → (keyTwice ss ≡ false → (i j : ℕ) (k : Key) → Has ss i k → Has ss j k → i ≡ j)
+        → (i j : ℕ) (k : Key) → Has (s ∷ ss) i k → Has (s ∷ ss) j k → i ≡ j
+    go true h r i j k x y = absurd (true≢false (sym (pick-yes true (keyTwice ss) h) ∙ e))
+    go false h r zero zero k x y = refl
+    go false h r zero (suc j) k x y = absurd (again-not s ss h j k (x .used) (x .key-is) (has-rest y))
+    go false h r (suc i) zero k x y = absurd (again-not s ss h i k (y .used) (y .key-is) (has-rest x))
+    go false h r (suc i) (suc j) k x y = ap suc (r (sym (pick-no _ _ h) ∙ e) i j k (has-rest x) (has-rest y))

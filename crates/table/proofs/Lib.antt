@@ -1,10 +1,13 @@
+pub mod Assemblies
 pub mod Calling
 pub mod Carries
+pub mod Effects
 pub mod Few
 pub mod Held
 pub mod Keys
 pub mod Lowest
 pub mod Mixed
+pub mod Next
 pub mod Only
 pub mod Parts
 pub mod Places

@@ -286,7 +286,7 @@ both-fit true x e = (refl, e)
 both-fit false x e = absurd (true≢false (sym e))
 
 -- Each of the slots fits where all do.
-fit-at : (t : List Slot) (i : ℕ) → allFit t ≡ true → slotFits (getD t i freeSlot) ≡ true
+pub fit-at : (t : List Slot) (i : ℕ) → allFit t ≡ true → slotFits (getD t i freeSlot) ≡ true
 unfolding allFit slotFits
 fit-at [] i e = refl
 fit-at (s ∷ t) zero e = both-fit (slotFits s) (allFit t) e .0

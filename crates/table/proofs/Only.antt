@@ -49,12 +49,22 @@ unfolding outFor
 outFor-says (out.Datagram n) = refl
 outFor-says (out.Refused n) = refl
 
+-- an answer that says the same is the same
+pub stepped-once : (r s : Stepped) (a : Answer Outcome) → steppedSays r ≡ a → steppedSays s ≡ a → r ≡ s
+stepped-once = told-once steppedSays steppedOf steppedOf-says
+
+pub gone-once : (r s : Gone) (a : Answer ℕ) → goneSays r ≡ a → goneSays s ≡ a → r ≡ s
+gone-once = told-once goneSays goneOf goneOf-says
+
+pub out-once : (r s : Out) (a : Answer ℕ) → outSays r ≡ a → outSays s ≡ a → r ≡ s
+out-once = told-once outSays outFor outFor-says
+
 -- of `take`
 pub tables-only : (a : Answer Placing) (t : List Slot) (d m : List ℕ) (r s : Placed) (d₁ m₁ d₂ m₂ : List ℕ) → Tables a t d m r d₁ m₁ → Tables a t d m s d₂ m₂
     → (r ≡ s) × (d₁ ≡ d₂) × (m₁ ≡ m₂)
 tables-only a t d m r s d₁ m₁ d₂ m₂ x y = (
   ap₂ (λ (u : List Slot) (b : Stepped). record { table = u; answer = b }) (x .slots-are ∙ sym (y .slots-are))
-      (told-once steppedSays steppedOf steppedOf-says (r .answer) (s .answer) _ (x .answer) (y .answer)),
+      (stepped-once (r .answer) (s .answer) _ (x .answer) (y .answer)),
   x .payloads-are ∙ sym (y .payloads-are),
   x .maps-are ∙ sym (y .maps-are),
 )
@@ -64,7 +74,7 @@ pub discards-only : (t : List Slot) (d m : List ℕ) (k : Key) (r s : Discarded)
     → (r ≡ s) × (d₁ ≡ d₂) × (m₁ ≡ m₂)
 discards-only t d m k r s d₁ m₁ d₂ m₂ x y = (
   ap₂ (λ (u : List Slot) (b : Gone). record { table = u; answer = b }) (x .slots-are ∙ sym (y .slots-are))
-      (told-once goneSays goneOf goneOf-says (r .answer) (s .answer) _ (x .answer) (y .answer)),
+      (gone-once (r .answer) (s .answer) _ (x .answer) (y .answer)),
   x .payloads-are ∙ sym (y .payloads-are),
   x .maps-are ∙ sym (y .maps-are),
 )
@@ -74,7 +84,7 @@ pub takes-out-only : (t : List Slot) (d m : List ℕ) (k : Key) (o : List ℕ) (
     → TakesOut t d m k o s d₂ m₂ o₂ → (r ≡ s) × (d₁ ≡ d₂) × (m₁ ≡ m₂) × (o₁ ≡ o₂)
 takes-out-only t d m k o r s d₁ m₁ o₁ d₂ m₂ o₂ x y = (
   ap₂ (λ (u : List Slot) (b : Out). record { table = u; answer = b }) (x .slots-are ∙ sym (y .slots-are))
-      (told-once outSays outFor outFor-says (r .answer) (s .answer) _ (x .answer) (y .answer)),
+      (out-once (r .answer) (s .answer) _ (x .answer) (y .answer)),
   x .payloads-are ∙ sym (y .payloads-are),
   x .maps-are ∙ sym (y .maps-are),
   x .output-is ∙ sym (y .output-is),

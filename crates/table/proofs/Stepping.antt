@@ -26,11 +26,12 @@ use Rattle.assembly.specs.View.{view, totalOf, piece}
 use Rattle.assembly.proofs.Steps.{steps-as}
 use Rattle.assembly.proofs.Calls.{put-by}
 use Rattle.table.specs.declared.Slot.{Slot}
+use Rattle.table.specs.declared.Landing.{Landing}
 use Rattle.table.specs.declared.Placed.{Placed}
 use Rattle.table.specs.declared.TakenOut.{TakenOut}
 use Rattle.table.specs.Slots.{slots, slotBytes, slotMap, partOf, withPart, freeSlot, stateAt}
-use Rattle.table.specs.Table.{steppedSays, outSays, placing, Tables, Outing, outing, outOf, slotsWithout, partWithout, slotIn, datagramIn}
-use Rattle.table.specs.Steps.{slotsWith, Stored, PutAsks, Occupied, lengthIn, MovedOut, OutOf}
+use Rattle.table.specs.Table.{steppedSays, outSays, Placing, placing, slotsAfter, Tables, Outing, outing, outOf, slotsWithout, partWithout, slotIn, datagramIn}
+use Rattle.table.specs.Steps.{slotsWith, Stored, Landed, landedOf, Lands, PutAsks, Occupied, lengthIn, MovedOut, OutOf}
 use Rattle.table.proofs.Lowest.{usable-record, same-element}
 use Rattle.table.proofs.Parts.{lent, back, lent-part, back-part, payload-length, map-length, first-of}
 
@@ -55,6 +56,9 @@ refused-stored t i a r n e s q =
 
 -- ---- a step on a slot
 
+abbrev landed : ℕ → Reply → Landed
+landed i r = record { slot = i; reply = r }
+
 -- a record that fits makes a slot's state ready
 slot-ready : (r : Rec) (p m : List ℕ) → length p ≡ slotBytes → length m ≡ slotMap
     → recordFits slotBytes (totalOf (r .total)) (r .floor) ≡ true → ready (view r p m) ≡ true
@@ -62,14 +66,14 @@ unfolding ready
 slot-ready r p m e f h = simp (e, f, h)
 
 -- where nothing is refused, the number for what is too far says nothing
-any-number : (C far other n : ℕ) (h : IpRead) → fitAnswer C far n h ≡ gives h → fitAnswer C other n h ≡ gives h
+pub any-number : (C far other n : ℕ) (h : IpRead) → fitAnswer C far n h ≡ gives h → fitAnswer C other n h ≡ gives h
 unfolding fitAnswer
 any-number C far other n h e =
     let a = past (broken (h .mf) n) 9 _ h e in
     let b = past (ltb C (8 * h .off + n)) far _ h (a .1) in
     pick-no _ _ (a .0) ∙ pick-no _ _ (b .0)
 
-module _ (t : List Slot) (i : ℕ) (x : Rec) (h : IpRead) (b d m : List ℕ) (asks : PutAsks x i h (length b) (length d) (length m)) where
+module _ (i : ℕ) (x : Rec) (h : IpRead) (b d m : List ℕ) (asks : PutAsks x i h (length b) (length d) (length m)) where
   -- nothing is refused
   put-given : putAnswer (view x (partOf slotBytes i d) (partOf slotMap i m)) h b
       ≡ gives (step (view x (partOf slotBytes i d) (partOf slotMap i m)) (piece (h .off) (h .mf) b))
@@ -88,18 +92,50 @@ module _ (t : List Slot) (i : ℕ) (x : Rec) (h : IpRead) (b d m : List ℕ) (as
         (subst (λ (p : List ℕ). Puts (view x (partOf slotBytes i d) p) h b a d₁ m₁) (lent-part slotMap i m)
         (subst (λ (p : List ℕ). Puts (view x p (lent slotMap i m)) h b a d₁ m₁) (lent-part slotBytes i d) call))
 
-    -- which is stored
-    pub put-placed : (r : Placed) → Stored t i (takenSays a) r
-        → Tables (gives (placing i (step (view x (partOf slotBytes i d) (partOf slotMap i m)) (piece (h .off) (h .mf) b))))
-        t d m r (back slotBytes i d d₁) (back slotMap i m m₁)
-    put-placed r s =
+    -- which lands there
+    pub put-lands : Lands (gives (placing i (step (view x (partOf slotBytes i d) (partOf slotMap i m)) (piece (h .off) (h .mf) b))))
+        d m (record { slot = i; taken = a }) (back slotBytes i d d₁) (back slotMap i m m₁)
+    put-lands =
         let e = put-slot in
         record {
-          answer = s .answer ∙ ap (λ (y : Answer Reply). mapped (λ z. z .answer) y) (e .answer);
-          slots-are = s .slots-are ∙ ap (λ (y : Answer Reply). slotsWith y i t) (e .answer);
+          below = asks .sized .one;
+          answer = ap (λ (y : Answer Reply). mapped (λ r. landed i r) y) (e .answer);
           payloads-are = back-part slotBytes i d d₁ ∙ ap (λ (p : List ℕ). withPart slotBytes i p d) (e .payload-is);
           maps-are = back-part slotMap i m m₁ ∙ ap (λ (p : List ℕ). withPart slotMap i p m) (e .map-is);
         }
+
+-- ---- what has landed is stored
+
+-- the slots after it
+abbrev slotsBy : Answer Landed → List Slot → List Slot
+slotsBy (gives x) t = set t (x .slot) (record { used = true; rec = x .reply .rec })
+slotsBy (refused n) t = t
+
+pub stored-lands : (a : Answer Placing) (t : List Slot) (d m : List ℕ) (x : Landing) (d′ m′ : List ℕ) (r : Placed) → Lands a d m x d′ m′
+    → Stored t (x .slot) (takenSays (x .taken)) r → Tables a t d m r d′ m′
+stored-lands a t d m x d′ m′ r l s =
+    record {
+      answer = s .answer ∙ told (takenSays (x .taken)) ∙ ap (mapped (λ y. y .reply .answer)) (l .answer) ∙ outcomes a;
+      slots-are = s .slots-are ∙ there (takenSays (x .taken)) ∙ ap (λ (y : Answer Landed). slotsBy y t) (l .answer) ∙ all-slots a;
+      payloads-are = l .payloads-are;
+      maps-are = l .maps-are;
+    }
+  where
+    told : (b : Answer Reply) → mapped (λ y. y .answer) b ≡ mapped (λ y. y .reply .answer) (mapped (λ y. landed (x .slot) y) b)
+    told (gives y) = refl
+    told (refused n) = refl
+
+    there : (b : Answer Reply) → slotsWith b (x .slot) t ≡ slotsBy (mapped (λ y. landed (x .slot) y) b) t
+    there (gives y) = refl
+    there (refused n) = refl
+
+    outcomes : (b : Answer Placing) → mapped (λ y. y .reply .answer) (mapped landedOf b) ≡ mapped (λ y. outcome (y .state)) b
+    outcomes (gives y) = refl
+    outcomes (refused n) = refl
+
+    all-slots : (b : Answer Placing) → slotsBy (mapped landedOf b) t ≡ slotsAfter b t
+    all-slots (gives y) = refl
+    all-slots (refused n) = refl
 
 -- ---- an occupied slot of a usable table
 

@@ -2,3 +2,4 @@ pub mod Slots
 pub mod Table
 pub mod Steps
 pub mod Mixed
+pub mod Next

@@ -1,5 +1,6 @@
 -- Document 02, T-03: "Pieces of several cars arrive mixed." Pieces handed to an empty table, one call after the other.
 use mathlib.Core.Path.{_≡_}
+use mathlib.Core.Logic.{_↔_}
 use mathlib.Core.Bool.{true, cond}
 use mathlib.Core.List.{List, [], _∷_, _++_, List·Memᴰ}
 use mathlib.Core.Option.{Option, none, some}
@@ -9,13 +10,13 @@ use Rattle.pkt.specs.Answers.{Answer, refused, gives, andThen, mapped}
 use Rattle.inspect.specs.Header.{readAnswer, dataOf}
 use Rattle.assembly.specs.declared.Key.{Key}
 use Rattle.assembly.specs.Assembly.{State, opened, run}
-use Rattle.assembly.specs.Piece.{Piece, Same}
+use Rattle.assembly.specs.Piece.{Piece, Contradictory, Same}
 use Rattle.assembly.specs.Carried.{keyOf, sameKey, fitAnswer, pieceOf}
 use Rattle.table.specs.declared.Slot.{Slot}
 use Rattle.table.specs.declared.Found.{Found}
 use Rattle.table.specs.declared.Found.the-variants.{At, Absent}
 use Rattle.table.specs.declared.Placed.{Placed}
-use Rattle.table.specs.Slots.{slots, slotBytes, slotMap, freeSlot, stateAt, keyFrom, tableFits}
+use Rattle.table.specs.Slots.{slots, slotBytes, slotMap, freeSlot, stateAt, keyFrom}
 use Rattle.table.specs.Table.{tableTake, Tables}
 
 -- a piece, and the key that it has
@@ -63,12 +64,22 @@ abbrev pub ledTo : Key → List Piece → Option State
 ledTo k [] = none
 ledTo k (p ∷ ps) = some (run (opened k slotBytes slotMap) (p ∷ ps))
 
+-- one of the packets ls carries a piece of the key k
+pub record Carried (k : Key) (ls : List (List ℕ)) : Type 0 where
+  pub packet : List ℕ
+  pub told : Keyed
+  pub within : List·Memᴰ packet ls
+  pub carries : keyedIn packet ≡ gives told
+  pub key-is : told .key ≡ k
+
 pub record Mixes : Type 0 where
-  -- A table never refuses its own next call by 11.
-  pub stays-usable : (ls : List (List ℕ)) (t : List Slot) (d m : List ℕ) → HandedTo ls t d m → tableFits t (length d) (length m) ≡ true
   -- Each key's assembly is the one that its own pieces alone lead to,
   pub own-pieces : (ls : List (List ℕ)) (t : List Slot) (d m : List ℕ) → HandedTo ls t d m → AtMostEight ls → (k : Key)
       → assemblyOf t d m k ≡ ledTo k (piecesOf k ls)
-  -- so "every order ends with the same assembly for each key, though slots may differ".
+  -- so "every order ends with the same assembly for each key, though slots may differ",
   pub one-end : (ls ms : List (List ℕ)) (t u : List Slot) (d m d′ m′ : List ℕ) → HandedTo ls t d m → HandedTo ms u d′ m′ → AtMostEight ls → AtMostEight ms
       → (k : Key) → Same (piecesOf k ls) (piecesOf k ms) → assemblyOf t d m k ≡ assemblyOf u d′ m′ k
+  -- and "demand 3 then holds for each key": spoilt exactly when two of its pieces contradict each other. (The rest of demand 3 is about pieces
+  -- that are built from one payload: demands.specs.Tabled.)
+  pub spoilt-when : (ls : List (List ℕ)) (t : List Slot) (d m : List ℕ) → HandedTo ls t d m → AtMostEight ls → (k : Key) (s : State)
+      → assemblyOf t d m k ≡ some s → (s .spoilt ≡ true) ↔ Contradictory (piecesOf k ls)

@@ -1,5 +1,5 @@
 -- What the calls' steps ask and leave; inner contracts alone cite it.
-use Prim.Native.Nat.{ℕ}
+use Prim.Native.Nat.{ℕ, _<_}
 use mathlib.Core.Bool.{true, cond}
 use mathlib.Core.Path.{_≡_}
 use mathlib.Core.List.{List}
@@ -8,15 +8,16 @@ use Rattle.pkt.specs.Answers.{Answer, refused, gives, mapped}
 use Rattle.pkt.specs.Written.{written}
 use Rattle.inspect.specs.declared.header.IpRead.{IpRead}
 use Rattle.assembly.specs.declared.Rec.{Rec}
-use Rattle.assembly.specs.Answers.{Reply}
+use Rattle.assembly.specs.Answers.{Reply, replyOf, takenSays}
 use Rattle.assembly.specs.Assembly.{State, recordFits, complete, heldBytes}
 use Rattle.assembly.specs.Carried.{fitAnswer}
 use Rattle.assembly.specs.View.{totalOf}
 use Rattle.table.specs.declared.Slot.{Slot}
+use Rattle.table.specs.declared.Landing.{Landing}
 use Rattle.table.specs.declared.Placed.{Placed}
 use Rattle.table.specs.declared.TakenOut.{TakenOut}
-use Rattle.table.specs.Slots.{slotBytes, slotMap, partOf, freeSlot, stateAt, tableFits, Sized}
-use Rattle.table.specs.Table.{steppedSays, outSays, outOf, slotIn, slotsWithout, partWithout, datagramIn}
+use Rattle.table.specs.Slots.{slots, slotBytes, slotMap, partOf, freeSlot, stateAt, tableFits, Sized}
+use Rattle.table.specs.Table.{steppedSays, Placing, payloadsAfter, mapsAfter, outSays, outOf, slotIn, slotsWithout, partWithout, datagramIn}
 
 -- the slots after an answer of taking a piece into slot i
 abbrev pub slotsWith : Answer Reply → ℕ → List Slot → List Slot
@@ -26,6 +27,24 @@ slotsWith (refused n) i t = t
 pub record Stored (t : List Slot) (i : ℕ) (a : Answer Reply) (r : Placed) : Type 0 where
   pub answer : steppedSays (r .answer) ≡ mapped (λ x. x .answer) a
   pub slots-are : r .table ≡ slotsWith a i t
+
+-- where a piece went: a slot, and what the assembly there answered
+pub record Landed : Type 0 where
+  pub slot : ℕ
+  pub reply : Reply
+
+abbrev pub landingSays : Landing → Answer Landed
+landingSays x = mapped (λ r. record { slot = x .slot; reply = r }) (takenSays (x .taken))
+
+abbrev pub landedOf : Placing → Landed
+landedOf x = record { slot = x .slot; reply = replyOf (x .state) }
+
+-- d and m are the buffers before, d′ and m′ after; the slots are not yet changed
+pub record Lands (a : Answer Placing) (d m : List ℕ) (x : Landing) (d′ m′ : List ℕ) : Type 0 where
+  pub below : x .slot < slots
+  pub answer : landingSays x ≡ mapped landedOf a
+  pub payloads-are : d′ ≡ payloadsAfter a d
+  pub maps-are : m′ ≡ mapsAfter a m
 
 -- n bytes of data fit a slot behind their header
 abbrev pub FitsSlot : IpRead → ℕ → Type 0

@@ -20,9 +20,9 @@ ghost use Rattle.assembly.specs.Answers.{takenSays};
 ghost use Rattle.assembly.specs.Assembly.{opened, step};
 ghost use Rattle.assembly.specs.Carried.{keyOf};
 ghost use Rattle.assembly.specs.View.{recordOf, view, piece};
-ghost use Rattle.table.specs.Slots.{slotBytes, slotMap, partOf, withPart, stateAt, noKey, freeSlot, holdsKey, keyFrom, freeFrom, slotFits, allFit, found, keyAgain, keyTwice, tableFits, Sized};
+ghost use Rattle.table.specs.Slots.{slots, slotBytes, slotMap, partOf, withPart, stateAt, noKey, freeSlot, holdsKey, keyFrom, freeFrom, slotFits, allFit, found, keyAgain, keyTwice, tableFits, Sized};
 ghost use Rattle.table.specs.Table.{steppedSays, goneSays, outSays, placing, openedAt, placeFor, steppedBy, pieceFor, tableTake, Tables, Discards, TakesOut};
-ghost use Rattle.table.specs.Steps.{Stored, PutAsks, Fitting, Occupied, lengthIn, MovedOut, OutOf};
+ghost use Rattle.table.specs.Steps.{Stored, landingSays, Lands, PutAsks, Fitting, Occupied, lengthIn, MovedOut, OutOf};
 
 const SLOT_BYTES: usize = 8192;
 
@@ -38,6 +38,12 @@ pub struct Slot {
 pub enum Found {
     At(usize),
     Absent,
+}
+
+// Where a piece went: a slot, and what the assembly there answered. On a refusal the slot says nothing.
+struct Landing {
+    slot: usize,
+    taken: Taken,
 }
 
 // What taking a piece answers.
@@ -268,10 +274,12 @@ fn kept(table: [Slot; 8], i: usize, rec: Rec, answer: Stepped) -> Placed
     Placed { table, answer }
 }
 
-fn stored(table: [Slot; 8], i: usize, taken: Taken) -> Placed
-    requires { ⌜ i < 8 ⌝ }
-    ensures { λ r. ⌜ Stored table i (takenSays taken) r ⌝ }
+fn stored(table: [Slot; 8], landing: Landing) -> Placed
+    requires { ⌜ landing .slot < 8 ⌝ }
+    ensures { λ r. ⌜ Stored table (landing .slot) (takenSays (landing .taken)) r ⌝ }
 {
+    let i = landing.slot;
+    let taken = landing.taken;
     match taken {
         Taken::Waiting(rec) => kept(table, i, rec, Stepped::Waiting),
         Taken::Complete(rec) => kept(table, i, rec, Stepped::Complete),
@@ -280,19 +288,25 @@ fn stored(table: [Slot; 8], i: usize, taken: Taken) -> Placed
     }
 }
 
+fn turned_away(number: u8) -> Landing
+    ensures { λ r. ⌜ (r .slot < slots) × (landingSays r ≡ refused number) ⌝ }
+{
+    let taken = Taken::Refused(number);
+    Landing { slot: 0, taken }
+}
+
 // The step by a piece on slot i, which has this record.
 fn put_at(
-    table: [Slot; 8],
     i: usize,
     rec: Rec,
     h: IpRead,
     body: &[u8],
     payloads: &mut [u8],
     maps: &mut [u8],
-) -> Placed
+) -> Landing
     requires { ⌜ PutAsks rec i h (length (now body)) (length (now payloads)) (length (now maps)) ⌝ }
-    ensures { λ r. ⌜ Tables (gives (placing i (step (view rec (partOf slotBytes i (now (payloads .entry))) (partOf slotMap i (now (maps .entry)))) (piece (h .off) (h .mf) (now (body .entry))))))
-        table (now (payloads .entry)) (now (maps .entry)) r (now (payloads .exit)) (now (maps .exit)) ⌝ }
+    ensures { λ r. ⌜ Lands (gives (placing i (step (view rec (partOf slotBytes i (now (payloads .entry))) (partOf slotMap i (now (maps .entry)))) (piece (h .off) (h .mf) (now (body .entry))))))
+        (now (payloads .entry)) (now (maps .entry)) r (now (payloads .exit)) (now (maps .exit)) ⌝ }
 {
     let at = SLOT_BYTES * i;
     let map = SLOT_MAP * i;
@@ -303,30 +317,36 @@ fn put_at(
         &mut payloads[at..at + SLOT_BYTES],
         &mut maps[map..map + SLOT_MAP],
     );
-    stored(table, i, taken)
+    Landing { slot: i, taken }
 }
 
 // A piece whose key no slot has: the lowest free slot is opened for it.
-fn put_new(table: [Slot; 8], h: IpRead, body: &[u8], payloads: &mut [u8], maps: &mut [u8]) -> Placed
+fn put_new(
+    table: [Slot; 8],
+    h: IpRead,
+    body: &[u8],
+    payloads: &mut [u8],
+    maps: &mut [u8],
+) -> Landing
     requires { ⌜ Fitting table h (length (now body)) (length (now payloads)) (length (now maps)) ⌝ }
-    ensures { λ r. ⌜ Tables (mapped (steppedBy (piece (h .off) (h .mf) (now (body .entry)))) (openedAt (keyOf h) (freeFrom 0 table)))
-        table (now (payloads .entry)) (now (maps .entry)) r (now (payloads .exit)) (now (maps .exit)) ⌝ }
+    ensures { λ r. ⌜ Lands (mapped (steppedBy (piece (h .off) (h .mf) (now (body .entry)))) (openedAt (keyOf h) (freeFrom 0 table)))
+        (now (payloads .entry)) (now (maps .entry)) r (now (payloads .exit)) (now (maps .exit)) ⌝ }
 {
     match free_one(table) {
-        Found::Absent => refuse(table, refusal::FULL),
+        Found::Absent => turned_away(refusal::FULL),
         Found::At(i) => {
             let key = carried::key_of(h);
             let rec = open_at(key, i, payloads, maps);
-            put_at(table, i, rec, h, body, payloads, maps)
+            put_at(i, rec, h, body, payloads, maps)
         }
     }
 }
 
 // A piece that fits a slot goes to the lowest slot with its key, or opens one.
-fn place(table: [Slot; 8], h: IpRead, body: &[u8], payloads: &mut [u8], maps: &mut [u8]) -> Placed
+fn place(table: [Slot; 8], h: IpRead, body: &[u8], payloads: &mut [u8], maps: &mut [u8]) -> Landing
     requires { ⌜ Fitting table h (length (now body)) (length (now payloads)) (length (now maps)) ⌝ }
-    ensures { λ r. ⌜ Tables (mapped (steppedBy (piece (h .off) (h .mf) (now (body .entry)))) (placeFor table (now (payloads .entry)) (now (maps .entry)) (keyOf h)))
-        table (now (payloads .entry)) (now (maps .entry)) r (now (payloads .exit)) (now (maps .exit)) ⌝ }
+    ensures { λ r. ⌜ Lands (mapped (steppedBy (piece (h .off) (h .mf) (now (body .entry)))) (placeFor table (now (payloads .entry)) (now (maps .entry)) (keyOf h)))
+        (now (payloads .entry)) (now (maps .entry)) r (now (payloads .exit)) (now (maps .exit)) ⌝ }
 {
     let key = carried::key_of(h);
     match key_from(table, 0, key) {
@@ -334,7 +354,7 @@ fn place(table: [Slot; 8], h: IpRead, body: &[u8], payloads: &mut [u8], maps: &m
         Found::At(i) => {
             let s = table[i];
             let rec = s.rec;
-            put_at(table, i, rec, h, body, payloads, maps)
+            put_at(i, rec, h, body, payloads, maps)
         }
     }
 }
@@ -345,13 +365,13 @@ fn take_read(
     body: &[u8],
     payloads: &mut [u8],
     maps: &mut [u8],
-) -> Placed
+) -> Landing
     requires { ⌜ tableFits table (length (now payloads)) (length (now maps)) ≡ true ⌝ }
-    ensures { λ r. ⌜ Tables (pieceFor table (now (payloads .entry)) (now (maps .entry)) h (now (body .entry)))
-        table (now (payloads .entry)) (now (maps .entry)) r (now (payloads .exit)) (now (maps .exit)) ⌝ }
+    ensures { λ r. ⌜ Lands (pieceFor table (now (payloads .entry)) (now (maps .entry)) h (now (body .entry)))
+        (now (payloads .entry)) (now (maps .entry)) r (now (payloads .exit)) (now (maps .exit)) ⌝ }
 {
     match carried::fit(SLOT_BYTES, refusal::TOO_FAR_FOR_SLOT, body.len(), h) {
-        Seen::Refused(number) => refuse(table, number),
+        Seen::Refused(number) => turned_away(number),
         Seen::Packet(p) => place(table, p, body, payloads, maps),
     }
 }
@@ -369,7 +389,8 @@ pub fn take(table: [Slot; 8], packet: &[u8], payloads: &mut [u8], maps: &mut [u8
         Seen::Packet(h) => {
             let start = h.start;
             let end = h.end;
-            take_read(table, h, &packet[start..end], payloads, maps)
+            let landing = take_read(table, h, &packet[start..end], payloads, maps);
+            stored(table, landing)
         }
     }
 }

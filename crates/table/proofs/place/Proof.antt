@@ -11,7 +11,7 @@ use Rattle.assembly.specs.View.{totalOf, piece}
 use Rattle.table.specs.declared.Slot.{Slot}
 use Rattle.table.specs.declared.Found.the-variants.{At, Absent}
 use Rattle.table.specs.Slots.{slotBytes, keyFrom}
-use Rattle.table.proofs.Calling.{tables-as, place-new, place-at, read-step}
+use Rattle.table.proofs.Calling.{lands-as, place-new, place-at, read-step}
 use Rattle.table.proofs.Lowest.{key-below, key-occupied, usable-record, read-within}
 use Rattle.table.proofs.place.Statement.{statement}
 use Rattle.table.proofs.place.Tie as tie
@@ -56,7 +56,7 @@ returns c =
     let key = c .before .before .before .before .before .before .before .before .before .before .key-of .ensures in
     let e : keyFrom 0 (keyOf (a .h)) (a .t1) ≡ Absent =
     ap (λ (k : Key). keyFrom 0 k (a .t1)) (sym key) ∙ sym (c .before .before .before .before .before .before .before .before .before .key-from .ensures) ∙ c .before .before .before .before .before .before .before .enum-told .given .1 in
-    tables-as _ _ _ _ _ _ _ _ (place-new (a .t1) (a .payloads .now) (a .maps .now) (keyOf (a .h)) (piece (a .h .off) (a .h .mf) (a .body .now)) e)
+    lands-as _ _ _ _ _ _ _ (place-new (a .t1) (a .payloads .now) (a .maps .now) (keyOf (a .h)) (piece (a .h .off) (a .h .mf) (a .body .now)) e)
     (c .before .before .before .before .put-new .ensures)
 
 returns-2 : tie.Need-returns-2
@@ -67,7 +67,7 @@ returns-2 c =
     let p = piece (a .h .off) (a .h .mf) (a .body .now) in
     let e : keyFrom 0 (keyOf (a .h)) (a .t1) ≡ At i =
     ap (λ (k : Key). keyFrom 0 k (a .t1)) (sym key) ∙ sym (c .before .before .before .before .before .before .before .before .before .before .before .before .key-from .ensures) ∙ c .before .before .before .before .before .before .before .before .before .before .i .given .1 in
-    tables-as _ _ _ _ _ _ _ _ (place-at (a .t1) (a .payloads .now) (a .maps .now) (keyOf (a .h)) p i e)
+    lands-as _ _ _ _ _ _ _ (place-at (a .t1) (a .payloads .now) (a .maps .now) (keyOf (a .h)) p i e)
     (read-step (a .t1) (a .payloads .now) (a .maps .now) i p _ _ _ (key-below (keyOf (a .h)) (a .t1) i e) (c .before .before .before .before .put-at .ensures))
 
 pub place-spec : {M : Type 1} → statement M

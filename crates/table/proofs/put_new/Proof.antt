@@ -9,7 +9,7 @@ use Rattle.assembly.specs.Assembly.{opened, recordFits}
 use Rattle.assembly.specs.Carried.{keyOf}
 use Rattle.assembly.specs.View.{totalOf, recordOf, piece}
 use Rattle.table.specs.Slots.{slotBytes, slotMap}
-use Rattle.table.proofs.Calling.{tables-as, refused-tables, new-full, new-at, opened-step}
+use Rattle.table.proofs.Calling.{lands-as, refused-lands, new-full, new-at, opened-step}
 use Rattle.table.proofs.Lowest.{free-below, usable-sized}
 use Rattle.table.proofs.Stepping.{opened-fits}
 use Rattle.table.proofs.put_new.Statement.{statement}
@@ -40,7 +40,7 @@ returns : tie.Need-returns
 returns c =
     let a = c .before .before .before .before .before .before .before .args in
     let full = sym (c .before .before .before .free-one .ensures) ∙ c .before .enum-told .given .1 in
-    tables-as _ _ _ _ _ _ _ _ (new-full (a .table) (a .payloads .now) (a .maps .now) (keyOf (a .h)) (piece (a .h .off) (a .h .mf) (a .body .now)) full) (refused-tables 19 _ _ _ _ (c .refuse .ensures))
+    lands-as _ _ _ _ _ _ _ (new-full (a .table) (a .payloads .now) (a .maps .now) (keyOf (a .h)) (piece (a .h .off) (a .h .mf) (a .body .now)) full) (refused-lands 19 _ _ _ (c .turned-away .ensures))
 
 returns-2 : tie.Need-returns-2
 returns-2 c =
@@ -51,9 +51,9 @@ returns-2 c =
     let free = sym (c .before .before .before .before .before .before .before .before .before .before .before .before .before .before .before .before .before .before .free-one .ensures) ∙ c .before .before .before .before .before .before .before .before .before .before .before .before .before .before .before .before .i .given .1 in
     let i : ℕ = c .before .before .before .before .before .before .before .before .before .before .before .before .before .before .before .before .i .given .0 .0 in
     let at = usable-sized (a .table) (length (a .payloads .now)) (length (a .maps .now)) i (start .pre .usable) (omega (arith, free-below (a .table) i free, start .good .0 .1 .0 .1)) in
-    tables-as _ _ _ _ _ _ _ _
+    lands-as _ _ _ _ _ _ _
     (new-at (a .table) (a .payloads .now) (a .maps .now) (keyOf (a .h)) (piece (a .h .off) (a .h .mf) (a .body .now)) _ free)
-    (opened-step (a .table) (a .payloads .now) (a .maps .now) _ _ (keyOf (a .h)) _ _ (piece (a .h .off) (a .h .mf) (a .body .now)) _ _ _ at
+    (opened-step (a .payloads .now) (a .maps .now) _ _ (keyOf (a .h)) _ _ (piece (a .h .off) (a .h .mf) (a .body .now)) _ _ _ at
     (opening .ensures .0 ∙ ap (λ (k : Key). recordOf (opened k slotBytes slotMap)) key) (opening .ensures .1) (opening .ensures .2) (c .before .before .before .before .put-at .ensures))
 
 pub put-new-spec : {M : Type 1} → statement M

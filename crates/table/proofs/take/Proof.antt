@@ -8,6 +8,7 @@ use Rattle.inspect.specs.Answers.{readSays}
 use Rattle.inspect.proofs.Reading.{read-framed}
 use Rattle.table.specs.Slots.{tableFits}
 use Rattle.table.proofs.Calling.{tables-as, refused-tables, table-eleven, table-refused, table-read}
+use Rattle.table.proofs.Stepping.{stored-lands}
 use Rattle.table.proofs.take.Statement.{statement}
 use Rattle.table.proofs.take.Tie as tie
 
@@ -36,12 +37,16 @@ returns-2 c =
     let e = sym (c .before .before .before .before .read .ensures) ∙ ap readSays (c .before .before .number .given .1) in
     tables-as _ _ _ _ _ _ _ _ (table-refused (a .table) (a .payloads .now) (a .maps .now) (a .packet .now) _ u e) (refused-tables _ _ _ _ _ (c .refuse2 .ensures))
 
+stored-requires : tie.Need-stored-requires
+stored-requires c κs = c .before .before .before .before .take-read .ensures .below
+
 returns-3 : tie.Need-returns-3
 returns-3 c =
-    let a = c .before .before .before .before .before .before .before .before .before .before .before .before .before .before .before .before .before .args in
-    let u : tableFits (a .table) (length (a .payloads .now)) (length (a .maps .now)) ≡ true = sym (c .before .before .before .before .before .before .before .before .before .before .before .before .before .is-usable .ensures) ∙ not-false _ (c .before .before .before .before .before .before .before .before .before .before .before .before .if1 .left) in
-    let e = sym (c .before .before .before .before .before .before .before .before .before .before .before .read .ensures) ∙ ap readSays (c .before .before .before .before .before .before .before .before .before .h .given .1) in
-    tables-as _ _ _ _ _ _ _ _ (table-read (a .table) (a .payloads .now) (a .maps .now) (a .packet .now) _ u e) (c .before .before .before .before .take-read .ensures)
+    let a = c .before .before .before .before .before .before .before .before .before .before .before .before .before .before .before .before .before .before .args in
+    let u : tableFits (a .table) (length (a .payloads .now)) (length (a .maps .now)) ≡ true = sym (c .before .before .before .before .before .before .before .before .before .before .before .before .before .before .is-usable .ensures) ∙ not-false _ (c .before .before .before .before .before .before .before .before .before .before .before .before .before .if1 .left) in
+    let e = sym (c .before .before .before .before .before .before .before .before .before .before .before .before .read .ensures) ∙ ap readSays (c .before .before .before .before .before .before .before .before .before .before .h .given .1) in
+    tables-as _ _ _ _ _ _ _ _ (table-read (a .table) (a .payloads .now) (a .maps .now) (a .packet .now) _ u e)
+    (stored-lands _ _ _ _ _ _ _ _ (c .before .before .before .before .before .take-read .ensures) (c .stored .ensures))
 
 pub take-spec : {M : Type 1} → statement M
 take-spec =
@@ -58,6 +63,7 @@ take-spec =
     part-take-read-start
     part-take-read-end
     take-read-requires
+    stored-requires
     returns-2
     (λ c. search needs)
     (λ c. search needs)
