@@ -11,7 +11,7 @@ use Rattle.pkt.proofs.Fields.{be-bytes}
 use Rattle.pkt.specs.Fields.{be, Bytes}
 use Rattle.pkt.specs.Rfc768.{nonzero}
 use Rattle.pkt.specs.Rfc1071.{words, plus, sum, checksum, Verifies}
-use Rattle.pkt.specs.Sums.{total, canon, folded, little}
+use Rattle.pkt.specs.Sums.{total, canon, fourWords}
 
 pub canon-small : (n : ℕ) → n ≤ 65535 → canon n ≡ n
 unfolding canon
@@ -76,6 +76,36 @@ unfolding plus
 plus-canon a n h =
     sym (canon-small _ (omega (arith, canon-most n))) ∙ canon-fold (a + canon n) ∙ canon-add a n
 
+-- numbers that fold alike do so under a sum
+pub canon-both : (a a′ b b′ : ℕ) → canon a ≡ canon a′ → canon b ≡ canon b′ → canon (a + b) ≡ canon (a′ + b′)
+canon-both a a′ b b′ ha hb =
+    let s : a + b′ ≡ b′ + a = omega arith in
+    let t : b′ + a′ ≡ a′ + b′ = omega arith in
+    sym (canon-add a b) ∙ ap (λ (k : ℕ). canon (a + k)) hb ∙ canon-add a b′ ∙ ap canon s ∙ sym (canon-add b′ a) ∙ ap (λ (k : ℕ). canon (b′ + k)) ha
+    ∙ canon-add b′ a′ ∙ ap canon t
+
+-- folded once, a number folds no further
+pub canon-twice : (n : ℕ) → canon (canon n) ≡ canon n
+canon-twice n = canon-small (canon n) (canon-most n)
+
+-- of numbers that fold alike, and beside a third
+pub plus-canons : (a b : ℕ) → plus (canon a) (canon b) ≡ canon (a + b)
+plus-canons a b =
+    let s : canon a + b ≡ b + canon a = omega arith in
+    let t : b + a ≡ a + b = omega arith in
+    plus-canon (canon a) b (canon-most a) ∙ ap canon s ∙ canon-add b a ∙ ap canon t
+
+pub canon-plus : (a b n : ℕ) → canon (plus a b + n) ≡ canon (a + b + n)
+unfolding plus
+canon-plus a b n = canon-both ((a + b) % 65536 + (a + b) / 65536) (a + b) n n (canon-fold (a + b)) refl
+
+pub canon-sum : (a b : ℕ) → canon (plus a b) ≡ canon (a + b)
+unfolding plus
+canon-sum a b = canon-fold (a + b)
+
+pub plus-small : (a b : ℕ) → a ≤ 65535 → b ≤ 65535 → plus a b ≡ canon (a + b)
+plus-small a b ha hb = ap (plus a) (sym (canon-small b hb)) ∙ plus-canon a b ha
+
 pub sum-total : (l : List ℕ) → Bytes l → sum (words l) ≡ canon (total l)
 unfolding sum words total canon
 sum-total [] h = refl
@@ -109,79 +139,23 @@ canon-whole (suc n) =
     let e : (suc n + (65535 - suc (n % 65535)) - 1) % 65535 ≡ 65534 = omega arith in
     canon-pos (suc n + (65535 - suc (n % 65535))) (omega arith) ∙ ap (λ (k : ℕ). k + 1) e
 
--- ---- wider words
+-- ---- four words
 
--- a word that counts 65536 times counts once
-pub canon-wide : (n w : ℕ) → canon (n + w * 65536) ≡ canon (n + w)
-canon-wide n zero = refl
-canon-wide n (suc w) =
-    let e : (n + suc w * 65536 - 1) % 65535 ≡ (n + suc w - 1) % 65535 = omega arith in
-    canon-pos (n + suc w * 65536) (omega arith) ∙ ap (λ (k : ℕ). k + 1) e ∙ sym (canon-pos (n + suc w) (omega arith))
+-- the first four, and what is behind them
+four-first : (l : List ℕ) → 8 ≤ length l → total l ≡ fourWords l + total (drop 8 l)
+four-first l h =
+    omega (
+      arith,
+      total-two l 0 (omega arith),
+      total-two l 2 (omega arith),
+      total-two l 4 (omega arith),
+      total-two l 6 (omega arith),
+    )
 
--- numbers that fold alike do so under a sum
-pub canon-both : (a a′ b b′ : ℕ) → canon a ≡ canon a′ → canon b ≡ canon b′ → canon (a + b) ≡ canon (a′ + b′)
-canon-both a a′ b b′ ha hb =
-    let s : a + b′ ≡ b′ + a = omega arith in
-    let t : b′ + a′ ≡ a′ + b′ = omega arith in
-    sym (canon-add a b) ∙ ap (λ (k : ℕ). canon (a + k)) hb ∙ canon-add a b′ ∙ ap canon s ∙ sym (canon-add b′ a) ∙ ap (λ (k : ℕ). canon (b′ + k)) ha
-    ∙ canon-add b′ a′ ∙ ap canon t
-
--- each step of folding brings a 48-bit number nearer
-fold-1 : (n : ℕ) → n < 281474976710656 → folded n < 4295032832
-fold-1 n h = omega arith
-
-fold-2 : (n : ℕ) → n < 4295032832 → folded n ≤ 131072
-fold-2 n h = omega arith
-
-fold-3 : (n : ℕ) → n ≤ 131072 → folded n ≤ 65536
-fold-3 n h = omega arith
-
-fold-4 : (n : ℕ) → n ≤ 65536 → folded n ≤ 65535
-fold-4 n h = omega arith
-
--- what four folds come to
-pub folds-most : (n : ℕ) → n < 281474976710656 → folded (folded (folded (folded n))) ≤ 65535
-folds-most n h = fold-4 (folded (folded (folded n))) (fold-3 (folded (folded n)) (fold-2 (folded n) (fold-1 n h)))
-
-pub folds-canon : (n : ℕ) → n < 281474976710656 → folded (folded (folded (folded n))) ≡ canon n
-folds-canon n h =
-    sym (canon-small (folded (folded (folded (folded n)))) (folds-most n h))
-    ∙ canon-fold (folded (folded (folded n)))
-    ∙ canon-fold (folded (folded n))
-    ∙ canon-fold (folded n)
-    ∙ canon-fold n
-
--- 256 times a number, and 256 times that number folded, fold alike
-pub canon-fold-high : (n : ℕ) → canon (256 * folded n) ≡ canon (256 * n)
-canon-fold-high n =
-    let a : 256 * folded n ≡ 256 * (n % 65536) + 256 * (n / 65536) = omega arith in
-    let b : 256 * (n % 65536) + 256 * (n / 65536) * 65536 ≡ 256 * n = omega arith in
-    ap canon a ∙ sym (canon-wide (256 * (n % 65536)) (256 * (n / 65536))) ∙ ap canon b
-
--- four bytes, the first the lowest, 256 times: two words
-canon-four : (a b c d s r : ℕ)
-    → canon (256 * (s + (a + b * 256 + c * 65536 + d * 16777216)) + r) ≡ canon (256 * s + (a * 256 + b + (c * 256 + d + r)))
-canon-four a b c d s r =
-    let n : ℕ = 256 * s + a * 256 + r in
-    let e : 256 * (s + (a + b * 256 + c * 65536 + d * 16777216)) + r ≡ n + (b + c * 256 + d * 65536) * 65536 = omega arith in
-    let f : n + (b + c * 256 + d * 65536) ≡ n + b + c * 256 + d * 65536 = omega arith in
-    let g : n + b + c * 256 + d ≡ 256 * s + (a * 256 + b + (c * 256 + d + r)) = omega arith in
-    ap canon e ∙ canon-wide n (b + c * 256 + d * 65536) ∙ ap canon f ∙ canon-wide (n + b + c * 256) d ∙ ap canon g
-
--- a turn over the first four bytes
-quad-first : (l : List ℕ) (s : ℕ) → 4 ≤ length l → canon (256 * (s + little l) + total (drop 4 l)) ≡ canon (256 * s + total l)
-quad-first l s h =
-    let t₀ : total l ≡ getD l 0 0 * 256 + getD l 1 0 + total (drop 2 l) = total-two l 0 (omega arith) in
-    let t₂ : total (drop 2 l) ≡ getD l 2 0 * 256 + getD l 3 0 + total (drop 4 l) = total-two l 2 (omega arith) in
-    canon-four (getD l 0 0) (getD l 1 0) (getD l 2 0) (getD l 3 0) s (total (drop 4 l))
-    ∙ sym (ap (λ (k : ℕ). canon (256 * s + k)) (t₀ ∙ ap (λ (k : ℕ). getD l 0 0 * 256 + getD l 1 0 + k) t₂))
-
--- and over four from an index on
-pub quad-step : (l : List ℕ) (i s : ℕ) → i + 3 < length l
-    → canon (256 * (s + little (drop i l)) + total (drop (i + 4) l)) ≡ canon (256 * s + total (drop i l))
-quad-step l i s h =
-    ap (λ (r : List ℕ). canon (256 * (s + little (drop i l)) + total r)) (sym (drop-drop 4 i l))
-    ∙ quad-first (drop i l) s (omega (arith, length-drop i l))
+-- .. from an index on
+pub four-step : (l : List ℕ) (i : ℕ) → i + 7 < length l → total (drop i l) ≡ fourWords (drop i l) + total (drop (i + 8) l)
+four-step l i h =
+    four-first (drop i l) (omega (arith, length-drop i l)) ∙ ap (λ (r : List ℕ). fourWords (drop i l) + total r) (drop-drop 8 i l)
 
 -- ---- a checksum's field
 
@@ -250,7 +224,12 @@ module _ (p r : List ℕ) (even : length p % 2 ≡ 0) (bp : Bytes p) (br : Bytes
 -- ---- three parts, of which the first two have even lengths
 
 pub parts-checksum : (a b c : List ℕ) → length a % 2 ≡ 0 → length b % 2 ≡ 0 → Bytes a → Bytes b → Bytes c
-    → 65535 - canon (total a + total b + total c) ≡ checksum (a ++ (b ++ c))
+    → 65535 - canon (canon (total a) + total b + total c) ≡ checksum (a ++ (b ++ c))
 parts-checksum a b c ea eb ba bb bc =
+    let u : canon (total a) + total b + total c ≡ total b + total c + canon (total a) = omega arith in
+    let v : total b + total c + total a ≡ total a + total b + total c = omega arith in
+    let w : canon (canon (total a) + total b + total c) ≡ canon (total a + total b + total c) =
+    ap canon u ∙ canon-add (total b + total c) (total a) ∙ ap canon v in
     let t : total a + total b + total c ≡ total (a ++ (b ++ c)) = omega (arith, total-append a (b ++ c) ea, total-append b c eb) in
-    rw t (sym (checksum-total (a ++ (b ++ c)) (bytes-append a (b ++ c) ba (bytes-append b c bb bc))))
+    ap (λ (k : ℕ). 65535 - k) (w ∙ ap canon t)
+    ∙ sym (checksum-total (a ++ (b ++ c)) (bytes-append a (b ++ c) ba (bytes-append b c bb bc)))

@@ -118,14 +118,14 @@ pseudo-total s d p n hs hd hp hn =
     sym (address-total s (be 4 d ++ last) hs ∙ ap (λ (k : ℕ). s / 65536 + s % 65536 + k) (address-total d last hd) ∙ rw t (omega arith))
 
 pub tcp-finished : (s d : ℕ) (h : «tcp_hdr») (p : List ℕ) → Bytes p
-    → 65535 - canon (total (pseudo s d 6 (20 + length p)) + total (tcpHeader h 0) + total p) ≡ tcpChecksum s d h p
+    → 65535 - canon (canon (total (pseudo s d 6 (20 + length p))) + total (tcpHeader h 0) + total p) ≡ tcpChecksum s d h p
 unfolding pseudo tcpHeader tcpChecksum
 tcp-finished s d h p bp =
     parts-checksum (pseudo s d 6 (20 + length p)) (tcpHeader h 0) p refl refl
     (fields-bytes (pseudoFields s d 6 (20 + length p))) (fields-bytes (tcpFields h 0)) bp
 
 pub udp-finished : (s d : ℕ) (h : «udp_hdr») (p : List ℕ) → Bytes p
-    → nonzero (65535 - canon (total (pseudo s d 17 (8 + length p)) + total (udpHeader h 0) + total p)) ≡ udpChecksum s d h p
+    → nonzero (65535 - canon (canon (total (pseudo s d 17 (8 + length p))) + total (udpHeader h 0) + total p)) ≡ udpChecksum s d h p
 unfolding pseudo udpHeader udpChecksum
 udp-finished s d h p bp =
     ap nonzero
@@ -134,11 +134,11 @@ udp-finished s d h p bp =
 
 pub echo-finished : (h : «icmp_hdr») (e : «icmp_echo_hdr») (p : List ℕ) → Bytes p
     → 65535 - canon (0 + total (echoHeader h e 0) + total p) ≡ echoChecksum h e p
-unfolding total echoHeader echoChecksum
+unfolding total canon echoHeader echoChecksum
 echo-finished h e p bp = parts-checksum [] (echoHeader h e 0) p refl refl (λ i. omega arith) (fields-bytes (echoFields h e 0)) bp
 
 pub transport-finished : (s d p : ℕ) (l : List ℕ) → Bytes l
-    → 65535 - canon (total (pseudo s d p (length l)) + total [] + total l) ≡ checksum (pseudo s d p (length l) ++ l)
+    → 65535 - canon (canon (total (pseudo s d p (length l))) + total [] + total l) ≡ checksum (pseudo s d p (length l) ++ l)
 unfolding pseudo
 transport-finished s d p l bl =
     parts-checksum (pseudo s d p (length l)) [] l refl refl (fields-bytes (pseudoFields s d p (length l))) (λ i. omega arith) bl

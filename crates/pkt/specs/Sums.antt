@@ -1,5 +1,5 @@
 -- What the inner sums say. No public contract cites these.
-use Prim.Native.Nat.{ℕ, zero, suc, _+_, _*_, _/_, _%_}
+use Prim.Native.Nat.{ℕ, zero, suc, _+_, _*_, _%_}
 use mathlib.Core.List.{List, [], _∷_}
 use lib.ListN.{getD}
 
@@ -14,10 +14,8 @@ unfoldable pub canon : ℕ → ℕ
 canon zero = zero
 canon (suc n) = suc (n % 65535)
 
--- one step of folding: what is above 16 bits added to the 16
-abbrev pub folded : ℕ → ℕ
-folded n = n % 65536 + n / 65536
-
--- the first four bytes as one number, the first the lowest
-abbrev pub little : List ℕ → ℕ
-little l = getD l 0 0 + getD l 1 0 * 256 + getD l 2 0 * 65536 + getD l 3 0 * 16777216
+-- the plain sum of the first four words
+abbrev pub fourWords : List ℕ → ℕ
+fourWords l =
+    getD l 0 0 * 256 + getD l 1 0 + (getD l 2 0 * 256 + getD l 3 0)
+    + (getD l 4 0 * 256 + getD l 5 0 + (getD l 6 0 * 256 + getD l 7 0))

@@ -3,12 +3,12 @@ use crate::csum;
 use crate::limit;
 use crate::refusal;
 ghost use mathlib.Core.Path.{_≡_};
-ghost use Prim.Native.Nat.{_+_, _<_};
+ghost use Prim.Native.Nat.{_+_, _/_, _%_};
 ghost use Rattle.pkt.specs.Rfc791.{ipBytes, ipHeader, ipDefault};
 ghost use Rattle.pkt.specs.Rfc768.{pseudo, nonzero, udpHeader};
 ghost use Rattle.pkt.specs.Rfc9293.{tcpHeader, tcpNew};
 ghost use Rattle.pkt.specs.Rfc792.{echoHeader, icmpNew, echoNew};
-ghost use Rattle.pkt.specs.Sums.{total};
+ghost use Rattle.pkt.specs.Sums.{total, canon};
 ghost use Rattle.pkt.specs.Answers.{sumSays, csumAnswer, tcpAnswer, udpAnswer, echoAnswer, transportAnswer};
 
 pub mod proto {
@@ -310,6 +310,13 @@ pub fn ip_csum(buf: &[u8]) -> Sum
     Sum::Is(csum::ip_csum_fold(csum::ip_csum_partial(buf)))
 }
 
+// The sum of an address's two words.
+fn address(addr: u32) -> u16
+    ensures { λ r. ⌜ r ≡ canon (addr / 65536 + addr % 65536) ⌝ }
+{
+    csum::plus((addr / 65536) as u16, (addr % 65536) as u16)
+}
+
 // What goes before a transport header in its checksum.
 struct ip_pseudo_hdr {
     src: u32,
@@ -319,13 +326,12 @@ struct ip_pseudo_hdr {
 }
 
 impl ip_pseudo_hdr {
-    // The plain sum of its words.
-    fn csum_partial(self) -> u64
-        ensures { λ r. ⌜ (r ≡ total (pseudo (self .src) (self .dst) (self .proto) (self .len))) × (r < 1048576) ⌝ }
+    // The sum of its words.
+    fn csum_partial(self) -> u16
+        ensures { λ r. ⌜ r ≡ canon (total (pseudo (self .src) (self .dst) (self .proto) (self .len))) ⌝ }
     {
-        let src = self.src as u64;
-        let dst = self.dst as u64;
-        src / 65536 + src % 65536 + dst / 65536 + dst % 65536 + self.proto as u64 + self.len as u64
+        let addresses = csum::plus(address(self.src), address(self.dst));
+        csum::plus(addresses, csum::plus(self.proto as u16, self.len))
     }
 }
 

@@ -26,7 +26,7 @@ returns-2 c =
     simp (le-ltb 65495 (length p) (omega (arith, at-if .if1 .left)))
     (ap gives
     (c .finished .ensures
-    ∙ ap₂ (λ (k : ℕ) (l : List ℕ). 65535 - canon (k + total l + total p)) (at-pseudo .csum-partial .ensures .0) (at-header .to-bytes .ensures)
+    ∙ ap₂ (λ (k : ℕ) (l : List ℕ). 65535 - canon (k + total l + total p)) (at-pseudo .csum-partial .ensures) (at-header .to-bytes .ensures)
     ∙ tcp-finished (a .saddr) (a .daddr) (a .h) p (λ i. known i .fits)))
 
 pub tcp-csum-spec : {M : Type 1} → statement M

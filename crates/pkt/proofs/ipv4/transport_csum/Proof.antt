@@ -25,7 +25,7 @@ returns-2 c =
     simp (le-ltb 65515 (length l) (omega (arith, at-if .if1 .left)))
     (ap gives
     (c .finished .ensures
-    ∙ ap (λ (k : ℕ). 65535 - canon (k + total [] + total l)) (at-pseudo .csum-partial .ensures .0)
+    ∙ ap (λ (k : ℕ). 65535 - canon (k + total [] + total l)) (at-pseudo .csum-partial .ensures)
     ∙ transport-finished (a .saddr) (a .daddr) (a .proto) l (λ i. known i .fits)))
 
 pub transport-csum-spec : {M : Type 1} → statement M

@@ -27,7 +27,7 @@ returns-2 c =
     simp (le-ltb 65507 (length p) (omega (arith, at-if .if1 .left)))
     (ap gives
     (c .nonzero-of .ensures ∙ ap nonzero (c .before .finished .ensures)
-    ∙ ap₂ (λ (k : ℕ) (l : List ℕ). nonzero (65535 - canon (k + total l + total p))) (at-pseudo .csum-partial .ensures .0) (at-header .to-bytes .ensures)
+    ∙ ap₂ (λ (k : ℕ) (l : List ℕ). nonzero (65535 - canon (k + total l + total p))) (at-pseudo .csum-partial .ensures) (at-header .to-bytes .ensures)
     ∙ udp-finished (a .saddr) (a .daddr) (a .h) p (λ i. known i .fits)))
 
 pub udp-csum-spec : {M : Type 1} → statement M
