@@ -36,6 +36,7 @@ use Rattle.table.specs.Table.{openedAt, placedAt, placeFor, steppedBy, pieceFor
 use Rattle.packet.specs.Headroom.{mostEnd, valid, leads}
 use Rattle.packet.specs.Answers.{ifValid, lowerAnswer, copyAnswer}
 use Rattle.packet.specs.declared.Packet.{Packet}
+use Rattle.feed.specs.Feed.{badLink, frameSize, feedAnswer, writtenFor}
 use Rattle.pcap.specs.Answers.{recordAnswer}
 use Rattle.demands.specs.Numbers.{isIn, Among, number, accepted, AmongList, number-whole, number-at, accepted-all, buildNumbers, Numbered}
 use Rattle.pkt.specs.Rfc1071.{verifies}
@@ -238,6 +239,13 @@ pub record-in : (n usec room : ℕ) → Among (1 ∷ 17 ∷ 3 ∷ []) (recordAns
 record-in n usec room =
     refusing _ (ltb 65535 n) 1 _ refl (refusing _ (ltb 999999 usec) 17 _ refl (refusing _ (ltb room (16 + n)) 3 _ refl (accepted _)))
 
+-- a frame of a feed
+feed-in : (m n usec scratch out : ℕ) → Among (1 ∷ 24 ∷ 17 ∷ 3 ∷ []) (feedAnswer m n usec scratch out)
+feed-in m n usec scratch out =
+    refusing _ (ltb 65507 n) 1 _ refl
+    (refusing _ (badLink m) 24 _ refl
+    (refusing _ (ltb 999999 usec) 17 _ refl (refusing _ (ltb scratch (28 + n) || ltb out (frameSize m n)) 3 _ refl (accepted _))))
+
 pub copy-in : (ok : Bool) (k room : ℕ) → Among (16 ∷ 3 ∷ []) (copyAnswer ok k room)
 copy-in ok k room = unless _ ok 16 _ refl (refusing _ (ltb room k) 3 _ refl (accepted k))
 
@@ -279,6 +287,7 @@ numbered =
       recording = λ n usec room r e. told _ _ _ e (record-in n usec room);
       capturing = λ sec usec d o r o′ x. told _ _ _ (x .answer) (record-in (length d) usec (length o));
       heading = λ o r o′ x. told _ _ _ (x .answer) (fitting-in 24 (length o));
+      feeding = λ f b sec usec s o r s′ o′ x. told _ _ _ (x .answer) (mapped-in _ (writtenFor f (length b)) _ (feed-in (f .link) (length b) usec (length s) (length o)));
       making =
           λ h b r b′ x.
           told _ _ _ (x .answer) (refusing _ (ltb mostEnd h) 16 _ refl (refusing _ (ltb (length b) h) 3 _ refl (accepted _)));

@@ -6,7 +6,9 @@ use native.Mathlib.Omega.{arith}
 use lib.ListN.{length}
 use Rattle.pkt.specs.Answers.{Answer, refused, gives, mapped, plainly}
 use Rattle.pkt.specs.Written.{leaves}
-use Rattle.ezpkt.specs.Build.{answerOf, packetOf}
+use Rattle.ezpkt.specs.Build.{answerOf, packetOf, udpPacket}
+use Rattle.pcap.specs.Pcap.{recordsBytes}
+use Rattle.feed.specs.Feed.{frameDgram, frameRecords, feedAnswer, writtenFor}
 use Rattle.ezpkt.specs.Icmp4.{echoGone}
 use Rattle.packet.proofs.Answers.{kept}
 use Rattle.assembly.specs.Assembly.{State, outcome}
@@ -101,5 +103,10 @@ refused-keep =
       appending = λ p k d b b′ n x. x .after ∙ kept _ n _ b (sym (x .answer));
       prepending = λ p d b b′ n x. x .after ∙ kept _ n _ b (sym (x .answer));
       copying = λ ok k d o o′ n x. x .after ∙ kept _ n _ o (sym (x .answer));
+      feeding =
+          λ f b sec usec s o s′ o′ n x.
+          let a = feedAnswer (f .link) (length b) usec (length s) (length o) in
+          let e = mapped-refused (writtenFor f (length b)) a n (x .answer) in
+          (left a n (udpPacket (frameDgram f) b) s s′ e (x .scratch-is), left a n (recordsBytes (frameRecords f b sec usec)) o o′ e (x .output-is));
       capturing = λ a b o o′ n x. left a n b o o′ (x .answer) (x .after);
     }

@@ -53,6 +53,9 @@ use Rattle.packet.specs.declared.Truth.{Truth}
 use Rattle.packet.specs.declared.Part.{Part}
 use Rattle.packet.specs.declared.Made.{Made}
 use Rattle.packet.specs.declared.Pushed.{Pushed}
+use Rattle.feed.specs.Feed.{fedSays, Feeds}
+use Rattle.feed.specs.declared.Feed.{Feed}
+use Rattle.feed.specs.declared.Fed.{Fed}
 use Rattle.pcap.specs.Answers.{capturedSays, recordAnswer, HeaderWritten, RecordWritten}
 use Rattle.pcap.specs.declared.Captured.{Captured}
 
@@ -128,6 +131,9 @@ pub record Numbered : Type 0 where
   pub capturing : (sec usec : ℕ) (d o : List ℕ) (r : Captured) (o′ : List ℕ) → RecordWritten sec usec d o r o′ → Among (1 ∷ 17 ∷ 3 ∷ []) (capturedSays r)
   -- `write_header`
   pub heading : (o : List ℕ) (r : Captured) (o′ : List ℕ) → HeaderWritten o r o′ → Among (3 ∷ []) (capturedSays r)
+  -- Document 02, T-05, "1, 24 .., 17, 3": a feed's `frame` (`begin` is `write_header`)
+  pub feeding : (f : Feed) (b : List ℕ) (sec usec : ℕ) (s o : List ℕ) (r : Fed) (s′ o′ : List ℕ) → Feeds f b sec usec s o r s′ o′
+      → Among (1 ∷ 24 ∷ 17 ∷ 3 ∷ []) (fedSays r)
   -- "Headroom and dump 16, then 3", of the calls that write where there may be no room: `Packet::new`,
   pub making : (h : ℕ) (b : List ℕ) (r : Made) (b′ : List ℕ) → packet.MadeNew h b r b′ → Among (16 ∷ 3 ∷ []) (packet.madeSays r)
   -- `push_slice`, `push_bytes`, `push_hdr`, `push`,

@@ -59,8 +59,8 @@ pub fn write_header(out: &mut [u8]) -> Captured
     Captured::Bytes(24)
 }
 
-// The header of a packet of n bytes that is captured whole.
-fn record_header(sec: u32, usec: u32, n: u32) -> [u8; 16]
+// The header of a record, of a packet of n bytes that is captured whole.
+pub fn record_header(sec: u32, usec: u32, n: u32) -> [u8; 16]
     ensures { λ r. ⌜ r ≡ recordHeader sec usec n ⌝ }
 {
     [

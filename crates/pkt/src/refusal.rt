@@ -38,5 +38,7 @@ pub const BAD_TIME: u8 = 17;
 pub const FULL: u8 = 19;
 // A piece ends above what a slot of a table has room for.
 pub const TOO_FAR_FOR_SLOT: u8 = 20;
+// A link size below 28 or above 65,535.
+pub const BAD_LINK: u8 = 24;
 // A table of assemblies has no assembly for the key, or none that is complete.
 pub const NO_DATAGRAM: u8 = 27;

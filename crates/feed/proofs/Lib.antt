@@ -1,0 +1,4 @@
+pub mod Counting
+pub mod Feeding
+pub mod Only
+pub mod Recording
