@@ -1,7 +1,7 @@
 -- How many pieces there are: each but the last is full, and begins within the payload.
 use mathlib.Core.Path.{_≡_, refl, ap, _∙_}
 use Prim.Native.Nat.{ℕ, zero, suc, _+_, _-_, _*_, _/_, _≤_, _<_}
-use native.Mathlib.Nat.{suc-mul, div-eq-of-lt, div-mul-le-self, div-le-self}
+use native.Mathlib.Nat.{lt-div-mul-add, suc-mul, div-eq-of-lt, div-mul-le-self, div-le-self}
 use native.Mathlib.Decide.{decLe}
 use native.Mathlib.Omega.{arith}
 use mathlib.Core.Bool.{false}
@@ -48,6 +48,20 @@ count-within n m h =
     go : Dec (n ≤ m - 20) → (n - (m - 20) + (8 * blocksIn m - 1)) / (8 * blocksIn m) * (8 * blocksIn m) ≤ n
     go (yes few) = rw (none-above n m h few) (omega arith)
     go (no more) = omega (arith, div-mul-le-self (n - (m - 20) + (8 * blocksIn m - 1)) (8 * blocksIn m))
+
+-- .. and the last carries what they leave
+pub count-covers : (n m : ℕ) → 28 ≤ m → n ≤ (pieceCount n m - 1) * (8 * blocksIn m) + (m - 20)
+unfolding pieceCount
+count-covers n m h =
+    let f : ℕ = 8 * blocksIn m in
+    let q : ℕ = (n - (m - 20) + (f - 1)) / f in
+    let one : 1 + q - 1 ≡ q = omega arith in
+    let p : 0 < f = omega arith in
+    let most : n - (m - 20) + (f - 1) < q * f + f = lt-div-mul-add p in
+    rw one (covers f q p most)
+  where
+    covers : (f q : ℕ) → 0 < f → n - (m - 20) + (f - 1) < q * f + f → n ≤ q * f + (m - 20)
+    covers f q p most = omega arith
 
 -- with one less, bytes are left over
 one-less : (x f q : ℕ) → 0 < q → q * f ≤ x + (f - 1) → 0 < f → (q - 1) * f < x

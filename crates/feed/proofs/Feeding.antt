@@ -19,7 +19,7 @@ use Rattle.feed.specs.Feed.{badLink, frameDgram, payloadOf, frameSize, f
 use Rattle.feed.proofs.Counting.{link-good}
 
 -- nothing is refused
-pub record Granted (m n usec scratch out size : ℕ) : Type 0 where
+pub record Granted (m n scratch out size : ℕ) : Type 0 where
   pub few : n ≤ 65507
   pub least : 28 ≤ m
   pub most : m ≤ 65535
@@ -27,7 +27,7 @@ pub record Granted (m n usec scratch out size : ℕ) : Type 0 where
   pub out-room : frameSize m n ≤ out
   pub is-size : frameSize m n ≡ size
 
-pub granted : (m n usec scratch out size : ℕ) → gives size ≡ feedAnswer m n usec scratch out → Granted m n usec scratch out size
+pub granted : (m n usec scratch out size : ℕ) → gives size ≡ feedAnswer m n usec scratch out → Granted m n scratch out size
 granted m n usec scratch out size e =
     let a = past (ltb 65507 n) 1 _ size (sym e) in
     let b = past (badLink m) 24 _ size (a .1) in

@@ -1,4 +1,5 @@
 pub mod Counting
 pub mod Feeding
+pub mod Fitting
 pub mod Only
 pub mod Recording

@@ -50,11 +50,11 @@ abbrev pub turnSize : ℕ → ℕ → ℕ → ℕ → ℕ
 turnSize b n behind off = recordLong off (lengthAt b behind off n) n
 
 -- the last carries all that is left, every other is full
-last-size : (b n off : ℕ) → 8 * off ≤ n → turnSize b n 0 off ≡ 36 + (n - 8 * off)
+pub last-size : (b n off : ℕ) → 8 * off ≤ n → turnSize b n 0 off ≡ 36 + (n - 8 * off)
 unfolding recordLong
 last-size b n off h = omega arith
 
-full-size : (b n k off : ℕ) → 8 * off + 8 * b ≤ n → turnSize b n (suc k) off ≡ 36 + 8 * b
+pub full-size : (b n k off : ℕ) → 8 * off + 8 * b ≤ n → turnSize b n (suc k) off ≡ 36 + 8 * b
 unfolding recordLong
 full-size b n k off h = omega arith
 

@@ -11,16 +11,17 @@ abbrev pub linkRoom : ℕ → ℕ
 linkRoom m = m - 20
 
 abbrev pub blocksIn : ℕ → ℕ
-blocksIn m = (m - 20) / 8
+blocksIn m = linkRoom m / 8
 
 -- how many blocks n bytes take, the last perhaps not whole
 abbrev pub blocksOf : ℕ → ℕ
 blocksOf n = (n + 7) / 8
 
--- How many pieces n bytes take on a link of m bytes: "each but the last" carries whole blocks, and the last all that the link allows.
+-- how many full pieces carry what the last one cannot
 abbrev pub fullAbove : ℕ → ℕ → ℕ
 fullAbove above full = (above + (full - 1)) / full
 
+-- How many pieces n bytes take on a link of m bytes: "each but the last" carries whole blocks, and the last all that the link allows.
 unfoldable pub pieceCount : ℕ → ℕ → ℕ
 pieceCount n m = 1 + fullAbove (n - linkRoom m) (8 * blocksIn m)
 

@@ -1,8 +1,8 @@
 -- Document 02, T-05: the lap feed. What a frame is answered, and every lent byte after it.
-use Prim.Native.Nat.{ℕ, _+_, _*_, _%_}
+use Prim.Native.Nat.{ℕ, _+_, _*_, _%_, _≤_}
 use mathlib.Core.Path.{_≡_}
 use mathlib.Core.Bool.{Bool, true, false, _||_, cond}
-use mathlib.Core.List.{List, _++_, map}
+use mathlib.Core.List.{List, _++_, map, List·Memᴰ}
 use lib.ListN.{length}
 use lib.Dec.{ltb}
 use Rattle.pkt.specs.Answers.{Answer, refused, gives, mapped, mostUdp}
@@ -106,3 +106,12 @@ pub record Feeds (f : Feed) (b : List ℕ) (sec usec : ℕ) (s o : List ℕ) (r 
   pub answer : fedSays r ≡ mapped (writtenFor f (length b)) (feedAnswer (f .link) (length b) usec (length s) (length o))
   pub output-is : o′ ≡ leaves (feedAnswer (f .link) (length b) usec (length s) (length o)) (recordsBytes (frameRecords f b sec usec)) o
   pub scratch-is : s′ ≡ leaves (feedAnswer (f .link) (length b) usec (length s) (length o)) (udpPacket (frameDgram f) b) s
+
+-- What the numbers of that promise stand for, where nothing is refused:
+pub record FrameFits (f : Feed) (b : List ℕ) : Type 0 where
+  -- there are as many packets as are answered,
+  pub pieces : length (framePackets f b) ≡ piecesFor (f .link) (length b)
+  -- their records have as many bytes as are answered and number 3 asks for,
+  pub bytes : (sec usec : ℕ) → length (recordsBytes (frameRecords f b sec usec)) ≡ frameSize (f .link) (length b)
+  -- and each packet fits the link.
+  pub fit : (p : List ℕ) → List·Memᴰ p (framePackets f b) → length p ≤ f .link

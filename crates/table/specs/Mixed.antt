@@ -39,7 +39,7 @@ unfoldable pub piecesOf : Key → List (List ℕ) → List Piece
 piecesOf k [] = []
 piecesOf k (l ∷ ls) = ownOf k (keyedIn l) (piecesOf k ls)
 
--- "with at most eight keys among them": ks are the keys
+-- "with at most eight keys among them"
 pub record AtMostEight (ls : List (List ℕ)) : Type 0 where
   pub keys : List Key
   pub few : length keys ≤ slots
