@@ -13,6 +13,7 @@ use Rattle.ezpkt.specs.declared.SocketAddrV4.{SocketAddrV4}
 use Rattle.ezpkt.specs.declared.ip4.Template.{Template}
 use Rattle.ezpkt.specs.declared.build.UdpDatagram.{UdpDatagram}
 use Rattle.pcap.specs.Pcap.{Stamped, recordsBytes}
+use Rattle.pcap.specs.Answers.{mostMicros}
 use Rattle.feed.specs.declared.Feed.{Feed}
 use Rattle.feed.specs.declared.Written.{Written}
 use Rattle.feed.specs.declared.Fed.{Fed}
@@ -89,7 +90,7 @@ abbrev pub feedAnswer : ℕ → ℕ → ℕ → ℕ → ℕ → Answer ℕ
 feedAnswer m n usec scratch out =
     cond (ltb mostUdp n) (refused 1)
     (cond (badLink m) (refused 24)
-    (cond (ltb 999999 usec) (refused 17)
+    (cond (ltb mostMicros usec) (refused 17)
     (cond (ltb scratch (28 + n) || ltb out (frameSize m n)) (refused 3) (gives (frameSize m n)))))
 
 -- what a frame answers: the feed after it, how many bytes were written, and how many pieces

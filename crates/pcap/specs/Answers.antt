@@ -14,9 +14,13 @@ abbrev pub capturedSays : Captured → Answer ℕ
 capturedSays (Bytes n) = gives n
 capturedSays (Refused n) = refused n
 
+-- Number 17: "microseconds above 999,999"
+abbrev pub mostMicros : ℕ
+mostMicros = 999999
+
 -- Document 01, "Capture 1, 17, 3": the answer for a packet of n bytes, a time's microseconds, and an output of room bytes
 abbrev pub recordAnswer : ℕ → ℕ → ℕ → Answer ℕ
-recordAnswer n usec room = cond (ltb mostBytes n) (refused 1) (cond (ltb 999999 usec) (refused 17) (fitting (16 + n) room))
+recordAnswer n usec room = cond (ltb mostBytes n) (refused 1) (cond (ltb mostMicros usec) (refused 17) (fitting (16 + n) room))
 
 -- the file header into the output o
 abbrev pub HeaderWritten : List ℕ → Captured → List ℕ → Type 0

@@ -6,14 +6,14 @@ use lib.ListN.{length, take, drop}
 use Rattle.pkt.specs.Answers.{gives, mostBytes}
 use Rattle.pkt.specs.Written.{written}
 use Rattle.pcap.specs.Pcap.{Stamped, captureBytes}
-use Rattle.pcap.specs.Answers.{capturedSays, HeaderWritten, RecordWritten}
+use Rattle.pcap.specs.Answers.{capturedSays, mostMicros, HeaderWritten, RecordWritten}
 use Rattle.pcap.specs.Read.{readFile, captured}
 use Rattle.pcap.specs.declared.Captured.{Captured}
 
 -- the packets that a call takes: at most 65,535 bytes, microseconds up to 999,999; seconds are of 32 bits
 pub record Takable (s : Stamped) : Type 0 where
   pub seconds : s .sec < 2 ^ 32
-  pub micros : s .usec ≤ 999999
+  pub micros : s .usec ≤ mostMicros
   pub short : length (s .packet) ≤ mostBytes
 
 -- every one of them
