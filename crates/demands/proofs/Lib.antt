@@ -13,3 +13,4 @@ pub mod Gathering
 pub mod Listing
 pub mod Demands
 pub mod Tabled
+pub mod Laps

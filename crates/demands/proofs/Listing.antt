@@ -2,26 +2,26 @@
 use mathlib.Core.Path.{_≡_, refl, sym, ap, ap₂, subst, _∙_}
 use mathlib.Core.Bool.{Bool, true, false, cond}
 use mathlib.Core.List.{List, [], _∷_, _++_, map, append-assoc, append-nil, List·Memᴰ, List·Memᴰ·head, List·Memᴰ·tail, Memᴰ·map, Memᴰ·of-map}
-use Prim.Native.Nat.{ℕ, zero, suc, _+_, _*_, _≤_, _<_}
+use Prim.Native.Nat.{ℕ, zero, suc, _+_, _≤_, _<_}
 use native.Mathlib.Omega.{arith}
 use native.Mathlib.Nat.{le-of-suc-le-suc}
-use lib.ListN.{length, take, drop, getD, length-append, length-map, length-replicate, drop-of-length-le}
+use lib.ListN.{length, take, getD, length-append, length-map}
 use lib.Seq.{take-at}
 use borrow.Author.Tests.{ltb-false}
-use Rattle.pkt.specs.Answers.{Answer, gives, ListAnswer, refusedWhole, givesAll, plainly, mostIp}
-use Rattle.pkt.specs.Written.{written, leaves, zeros}
-use Rattle.ezpkt.specs.Build.{packetOf, answerOf}
+use Rattle.pkt.specs.Answers.{ListAnswer, refusedWhole, givesAll, plainly, mostIp}
+use Rattle.pkt.specs.Written.{written, leaves}
+use Rattle.ezpkt.specs.Build.{packetOf}
 use Rattle.ezpkt.specs.Ip4.{fragmentOf}
 use Rattle.ezpkt.specs.declared.ip4.Template.{Template}
 use Rattle.ezpkt.proofs.Sizes.{size-is}
 use Rattle.pieces.specs.Fragments.{packetsOf, sizeFor, endsFrom}
 use Rattle.pieces.specs.OneByOne.{requestAt}
 use Rattle.pieces.specs.declared.BlockRequest.{BlockRequest}
-use Rattle.pieces.proofs.Putting.{accepted}
 use Rattle.assembly.specs.Calls.{capacity}
 use Rattle.demands.specs.Assembling.{by-fragment, Cover}
-use Rattle.demands.specs.Cutting.{CutBy, of-fragment, AllCut}
+use Rattle.demands.specs.Cutting.{CutBy, AllCut}
 use Rattle.demands.specs.Listing.{cutAt, packetsIn, Listed, ListAssembles}
+use Rattle.demands.proofs.Left.{single}
 use Rattle.demands.proofs.Outputs.{between}
 use Rattle.demands.proofs.Gathering.{from-one}
 
@@ -71,22 +71,6 @@ cut-at-ends t p rest a at (r ∷ rs) e =
     (ap (cutAt end (endsFrom (length p) end rs)) (sym (append-assoc a k later))
     ∙ cut-at-ends t p rest (a ++ k) end rs (length-append a k ∙ omega (arith, size, e)))
 
--- ---- one packet
-
--- A single call that is asked for a piece of a payload that is short enough, not past its end, leaves the packet in an output as long.
-single : (t : Template) (p : List ℕ) (r : BlockRequest) → length p ≤ capacity → 8 * r .off ≤ length p → CutBy t p (packetFor t p r) (r .off) (r .len)
-unfolding written
-single t p r few within =
-    let k : List ℕ = packetFor t p r in
-    let o : List ℕ = zeros (length k) in
-    let room : length o ≡ length k = length-replicate (length k) 0 in
-    let size : length k ≡ sizeFor (length p) r = packet-size t p r in
-    let given : answerOf (fragmentOf t (r .off) (r .len)) (length p) (length o) ≡ gives (sizeFor (length p) r) =
-    accepted t r (length p) (length o) few (omega arith) (omega (arith, room, size)) in
-    let none : k ++ drop (length k) o ≡ k = ap (λ (l : List ℕ). k ++ l) (drop-of-length-le o {i = length k} (omega (arith, room))) ∙ append-nil k in
-    of-fragment (r .off) (r .len) (sizeFor (length p) r) o within
-    (record { answer = sym given; after = sym (ap (λ (a : Answer ℕ). leaves a k o) given ∙ none) })
-
 -- ---- an accepted call
 
 -- a test that refuses the whole did not, where all was given
@@ -121,7 +105,7 @@ module _ (t : Template) (rs : List BlockRequest) (p o′ e′ : List ℕ) (x : L
 
   -- The packet of each request is what a single call leaves.
   cut : (r : BlockRequest) → List·Memᴰ r rs → CutBy t p (packetFor t p r) (r .off) (r .len)
-  cut r m = single t p r few (x .none-past r m)
+  cut r m = single t p (r .off) (r .len) few (x .none-past r m)
 
   -- As many are cut as there are requests,
   as-many : length (packetsIn rs o′ e′) ≡ length rs

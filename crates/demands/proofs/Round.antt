@@ -96,28 +96,39 @@ datagram-checked t d o b n fits few x =
     ∙ piece-checked q d _ fits (omega arith) few
     ∙ pick-no _ _ (ap (λ (e : Bool). not e || not (eqb 0 0)) (eq-eqb _ _ all))
 
--- Demand 3 over the calls that build, cut, assemble and check: what is put together again is the IPv4 payload of the packet that was built,
--- and the datagram that is built of it is checked as it deserves.
-pub round-trip : (t : Template) (q : Request) (v : Verdict) (p o b : List ℕ) (n : ℕ) → Fitting t → Owed t q v → Bytes p → Answered q p o (Packet n) b
-    → RoundTrip t v (payloadIn n b)
-round-trip t q v p o b n fits c bp x =
-    let d : List ℕ = payloadIn n b in
-    let front = built-packet q p o b (Packet n) n x refl in
-    let is : d ≡ drop 20 (packetOf q p) = ap (drop 20) (front .1) in
-    let size = gives-short q (length p) (length o) n (sym (x .answer)) in
-    let few : length d ≤ capacity = omega (arith, ap length is, length-drop 20 (packetOf q p), front .0) in
-    let calls = calls-assemble t d fits few in
-    record {
-      calls = calls;
-      checked =
-          λ r payload map f k told o₂ b₂ n₂ y.
-          let g = calls .assembled r payload map f in
-          let same : standing isComplete k ≡ standing isComplete (length d) = cc (told, g .told) in
-          let size : k ≡ length d = ap (λ (s : Standing). s .bytes) same in
-          let bytes : take k payload ≡ d = ap (λ (m : ℕ). take m payload) size ∙ g .bytes in
-          datagram-checked t d o₂ b₂ n₂ fits few
-          (subst (λ (s : List ℕ). Answered (datagramOf t (length d)) s o₂ (Packet n₂) b₂) bytes
-          (subst (λ (m : ℕ). Answered (datagramOf t m) (take k payload) o₂ (Packet n₂) b₂) size y))
-          ∙ ap (partAnswer (whole t (length d) (20 + length d))) is
-          ∙ part-good t (length d) (20 + length d) q v p (length o) n c bp (sym (x .answer));
-    }
+-- The IPv4 payload of a packet that was built: it is short enough to be cut, and what `datagram` builds of it is checked as it deserves.
+module _ (t : Template) (q : Request) (v : Verdict) (p o b : List ℕ) (n : ℕ) (fits : Fitting t) (c : Owed t q v) (bp : Bytes p) (x : Answered q p o (Packet n) b) where
+  payload-is : payloadIn n b ≡ drop 20 (packetOf q p)
+  payload-is = ap (drop 20) (built-packet q p o b (Packet n) n x refl .1)
+
+  payload-few : length (payloadIn n b) ≤ capacity
+  payload-few =
+      let front = built-packet q p o b (Packet n) n x refl in
+      let size = gives-short q (length p) (length o) n (sym (x .answer)) in
+      omega (arith, ap length payload-is, length-drop 20 (packetOf q p), front .0)
+
+  pub datagram-good : (o₂ b₂ : List ℕ) (n₂ : ℕ) → Answered (datagramOf t (length (payloadIn n b))) (payloadIn n b) o₂ (Packet n₂) b₂ → checkAnswer b₂ ≡ gives v
+  datagram-good o₂ b₂ n₂ y =
+      let d : List ℕ = payloadIn n b in
+      datagram-checked t d o₂ b₂ n₂ fits payload-few y
+      ∙ ap (partAnswer (whole t (length d) (20 + length d))) payload-is
+      ∙ part-good t (length d) (20 + length d) q v p (length o) n c bp (sym (x .answer))
+
+  -- Demand 3 over the calls that build, cut, assemble and check: what is put together again is the IPv4 payload of the packet that was built,
+  -- and the datagram that is built of it is checked as it deserves.
+  pub round-trip : RoundTrip t v (payloadIn n b)
+  round-trip =
+      let d : List ℕ = payloadIn n b in
+      let calls = calls-assemble t d fits payload-few in
+      record {
+        calls = calls;
+        checked =
+            λ r payload map f k told o₂ b₂ n₂ y.
+            let g = calls .assembled r payload map f in
+            let same : standing isComplete k ≡ standing isComplete (length d) = cc (told, g .told) in
+            let size : k ≡ length d = ap (λ (s : Standing). s .bytes) same in
+            let bytes : take k payload ≡ d = ap (λ (m : ℕ). take m payload) size ∙ g .bytes in
+            datagram-good o₂ b₂ n₂
+            (subst (λ (s : List ℕ). Answered (datagramOf t (length d)) s o₂ (Packet n₂) b₂) bytes
+            (subst (λ (m : ℕ). Answered (datagramOf t m) (take k payload) o₂ (Packet n₂) b₂) size y));
+      }

@@ -13,3 +13,4 @@ pub mod Demand2
 pub mod Demand3
 pub mod Listing
 pub mod Tabled
+pub mod Laps

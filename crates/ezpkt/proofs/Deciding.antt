@@ -10,13 +10,14 @@ use Rattle.ezpkt.specs.Ip4.{fragmentOf, tailOf}
 use Rattle.ezpkt.specs.declared.ip4.Template.{Template}
 use Rattle.ezpkt.specs.declared.build.Built.{Built}
 use borrow.Author.Tests.{le-ltb, lt-ltb}
-use Rattle.pkt.specs.Answers.{refused, gives, sumSays, unlessLong}
+use Rattle.pkt.specs.Answers.{refused, gives, sumSays, unlessLong, mostUdp, mostIp, mostOffset}
 use Rattle.pkt.proofs.Deciding.{bounded}
 use Rattle.pkt.specs.declared.ipv4.Sum.{Sum}
 use Rattle.pkt.specs.declared.ipv4.Sum.the-variants.{Is, Refused}
 use Rattle.ezpkt.specs.Answers.{summed}
-use Rattle.ezpkt.specs.Build.{sizedAnswer, fragmentAnswer, answerOf, sizeOf, Answered}
+use Rattle.ezpkt.specs.Build.{fragmentSize, sizedAnswer, fragmentAnswer, answerOf, sizeOf, Answered}
 use Rattle.ezpkt.specs.declared.build.IpPiece.{IpPiece}
+use Rattle.ezpkt.specs.declared.build.UdpDatagram.{UdpDatagram}
 use Rattle.ezpkt.specs.declared.build.Request.{Request}
 use Rattle.ezpkt.specs.declared.build.Request.the-variants.{Tcp, Udp, Echo, Piece}
 
@@ -45,6 +46,14 @@ piece-fits q n room k e =
     let b = bounded 8191 (q .off) 2 k _ (a .1) in
     let d = bounded room (sizeOf (Piece q) n) 3 k _ (b .1) in
     (b .0, record { few = a .0; room-for = d .0; is-size = (let z : sizeOf (Piece q) n ≡ k = cc (d .1) in z) })
+
+-- The other way: a datagram or a piece that is short and near enough is taken where its packet has room.
+pub udp-given : (u : UdpDatagram) (n room : ℕ) → n ≤ mostUdp → 28 + n ≤ room → answerOf (Udp u) n room ≡ gives (28 + n)
+udp-given u n room few fits = simp (le-ltb mostUdp n few, le-ltb room (28 + n) fits)
+
+pub piece-given : (t : Template) (off len n room : ℕ) → n ≤ mostIp → off ≤ mostOffset → fragmentSize off len n ≤ room
+    → answerOf (fragmentOf t off len) n room ≡ gives (fragmentSize off len n)
+piece-given t off len n room few near fits = simp (le-ltb mostIp n few, le-ltb mostOffset off near, le-ltb room (fragmentSize off len n) fits)
 
 -- An answer that gives a length gives the packet's.
 pub gives-size : (q : Request) (n room k : ℕ) → answerOf q n room ≡ gives k → sizeOf q n ≡ k

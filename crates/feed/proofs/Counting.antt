@@ -38,9 +38,9 @@ unfolding pieceCount
 count-some n m = omega arith
 
 -- the pieces but the last are within the payload
-pub count-within : (n m : ℕ) → 28 ≤ m → (pieceCount n m - 1) * (8 * blocksIn m) ≤ n
+pub begins-within : (n m : ℕ) → 28 ≤ m → (pieceCount n m - 1) * (8 * blocksIn m) ≤ n
 unfolding pieceCount
-count-within n m h =
+begins-within n m h =
     let q : ℕ = (n - (m - 20) + (8 * blocksIn m - 1)) / (8 * blocksIn m) in
     let one : 1 + q - 1 ≡ q = omega arith in
     rw one (go (decLe n (m - 20)))

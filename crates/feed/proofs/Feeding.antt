@@ -1,5 +1,6 @@
 -- What a frame's answer tells, and the payload that its datagram has behind the IPv4 header.
 use mathlib.Core.Path.{_≡_, sym, ap, _∙_}
+use mathlib.Core.Bool.{false}
 use mathlib.Core.List.{List, _++_, append-assoc}
 use Prim.Native.Nat.{ℕ, _+_, _≤_}
 use lib.ListN.{length, take, drop, length-append}
@@ -14,31 +15,36 @@ use Rattle.pkt.proofs.Choice.{or-no}
 use Rattle.pkt.proofs.Deciding.{past}
 use Rattle.pkt.proofs.Headers.{ip-length, udp-length}
 use Rattle.ezpkt.specs.Build.{flowIp, udpHdr, udpField, udpPacket}
+use Rattle.pcap.specs.Answers.{mostMicros}
 use Rattle.feed.specs.declared.Feed.{Feed}
 use Rattle.feed.specs.Feed.{badLink, frameDgram, payloadOf, frameSize, feedAnswer}
 use Rattle.feed.proofs.Counting.{link-good}
 
 -- nothing is refused
-pub record Granted (m n scratch out size : ℕ) : Type 0 where
+pub record Granted (m n usec scratch out size : ℕ) : Type 0 where
   pub few : n ≤ 65507
+  pub good : badLink m ≡ false
   pub least : 28 ≤ m
   pub most : m ≤ 65535
+  pub micros : usec ≤ mostMicros
   pub scratch-room : 28 + n ≤ scratch
   pub out-room : frameSize m n ≤ out
   pub is-size : frameSize m n ≡ size
 
-pub granted : (m n usec scratch out size : ℕ) → gives size ≡ feedAnswer m n usec scratch out → Granted m n scratch out size
+pub granted : (m n usec scratch out size : ℕ) → gives size ≡ feedAnswer m n usec scratch out → Granted m n usec scratch out size
 granted m n usec scratch out size e =
     let a = past (ltb 65507 n) 1 _ size (sym e) in
     let b = past (badLink m) 24 _ size (a .1) in
-    let c = past (ltb 999999 usec) 17 _ size (b .1) in
+    let c = past (ltb mostMicros usec) 17 _ size (b .1) in
     let d = past _ 3 _ size (c .1) in
     let g = link-good m (b .0) in
     let r = or-no (ltb scratch (28 + n)) (ltb out (frameSize m n)) (d .0) in
     record {
       few = ltb-false 65507 n (a .0);
+      good = b .0;
       least = g .0;
       most = g .1;
+      micros = ltb-false mostMicros usec (c .0);
       scratch-room = ltb-false scratch (28 + n) (r .0);
       out-room = ltb-false out (frameSize m n) (r .1);
       is-size = cc (d .1);

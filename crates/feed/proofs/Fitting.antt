@@ -16,7 +16,7 @@ use Rattle.feed.specs.declared.Feed.{Feed}
 use Rattle.feed.specs.Cutting.{blocksIn, pieceCount, lengthAt, piecesFrom}
 use Rattle.feed.specs.Feed.{badLink, templateOf, payloadOf, FrameFits}
 use Rattle.feed.specs.Steps.{recordLong, recordsFrom}
-use Rattle.feed.proofs.Counting.{link-good, count-some, count-within, count-covers}
+use Rattle.feed.proofs.Counting.{link-good, count-some, begins-within, count-covers}
 use Rattle.feed.proofs.Feeding.{payload-length}
 use Rattle.feed.proofs.Recording.{last-size, full-size, record-long}
 
@@ -26,7 +26,7 @@ pieces-many t d b zero off = refl
 pieces-many t d b (suc k) off = ap suc (pieces-many t d b k (off + b))
 
 -- a full piece is within the payload where those behind it are
-full-before : (b n k off : ℕ) → 8 * off + suc k * (8 * b) ≤ n → 8 * (off + b) + k * (8 * b) ≤ n
+pub full-before : (b n k off : ℕ) → 8 * off + suc k * (8 * b) ≤ n → 8 * (off + b) + k * (8 * b) ≤ n
 full-before b n k off h = omega (arith, suc-mul k (8 * b))
 
 records-long : (t : Template) (d : List ℕ) (b k off sec usec : ℕ) → 8 * off + k * (8 * b) ≤ length d
@@ -76,7 +76,7 @@ frames-fit f b good =
     let c : ℕ = pieceCount (length d) m in
     let k : ℕ = c - 1 in
     let s : c ≡ suc (c - 1) = omega (arith, count-some (length d) m) in
-    let w = count-within (length d) m (g .0) in
+    let w = begins-within (length d) m (g .0) in
     let v = count-covers (length d) m (g .0) in
     let n = payload-length f b in
     record {

@@ -1,5 +1,7 @@
 pub mod Counting
+pub mod Cutting
 pub mod Feeding
 pub mod Fitting
 pub mod Only
 pub mod Recording
+pub mod Runs

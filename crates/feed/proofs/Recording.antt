@@ -1,23 +1,21 @@
 -- What the calls below leave where nothing is refused, and records one behind the other.
 use mathlib.Core.Path.{_≡_, refl, sym, ap, _∙_}
-use mathlib.Core.List.{List, [], _++_, append-assoc, append-nil}
+use mathlib.Core.List.{List, [], _++_, append-assoc}
 use Prim.Native.Nat.{ℕ, zero, suc, _+_, _-_, _*_, _≤_, _<_}
 use native.Mathlib.Omega.{arith}
 use lib.ListN.{length, take, drop, length-append, length-drop, take-append-drop}
 use native.Mathlib.Nat.{suc-mul}
 use lib.Seq.{length-take-le, take-append-add, drop-append-add}
-use borrow.Author.Tests.{le-ltb}
-use Rattle.pkt.specs.Answers.{Answer, gives}
+use Rattle.pkt.specs.Answers.{Answer}
 use Rattle.pkt.specs.Written.{written, leaves}
 use Rattle.pkt.proofs.Written.{written-then, written-length}
-use Rattle.pkt.proofs.Parts.{mid-tail, post-tail}
-use borrow.Rule.Slice.PartMut.{midOf, putMid}
 use Rattle.ezpkt.proofs.Sizes.{size-is}
+use Rattle.ezpkt.proofs.Deciding.{udp-given, piece-given}
 use Rattle.pcap.specs.Pcap.{recordBytes, recordsBytes}
 use Rattle.pcap.proofs.Pcap.{record-length}
 use Rattle.feed.specs.Cutting.{lengthAt, piecesFrom}
 use Rattle.feed.specs.Steps.{recordLong, recordsFrom}
-use Rattle.ezpkt.specs.Build.{fragmentSize, answerOf, packetOf, udpPacket, Answered}
+use Rattle.ezpkt.specs.Build.{fragmentSize, packetOf, udpPacket, Answered}
 use Rattle.ezpkt.specs.Ip4.{fragmentOf}
 use Rattle.ezpkt.specs.declared.ip4.Template.{Template}
 use Rattle.ezpkt.specs.declared.build.UdpDatagram.{UdpDatagram}
@@ -27,17 +25,13 @@ use Rattle.ezpkt.specs.declared.build.Request.the-variants.{Udp}
 -- a datagram
 pub udp-written : (u : UdpDatagram) (p o : List ℕ) (r : Built) (o′ : List ℕ) → length p ≤ 65507 → 28 + length p ≤ length o → Answered (Udp u) p o r o′
     → o′ ≡ written (udpPacket u p) o
-udp-written u p o r o′ few room x =
-    let e : answerOf (Udp u) (length p) (length o) ≡ gives (28 + length p) = simp (le-ltb 65507 (length p) few, le-ltb (length o) (28 + length p) room) in
-    x .after ∙ ap (λ (a : Answer ℕ). leaves a (udpPacket u p) o) e
+udp-written u p o r o′ few room x = x .after ∙ ap (λ (a : Answer ℕ). leaves a (udpPacket u p) o) (udp-given u (length p) (length o) few room)
 
 -- a piece
 pub piece-written : (t : Template) (off len : ℕ) (p o : List ℕ) (r : Built) (o′ : List ℕ) → length p ≤ 65515 → off ≤ 8191
     → fragmentSize off len (length p) ≤ length o → Answered (fragmentOf t off len) p o r o′ → o′ ≡ written (packetOf (fragmentOf t off len) p) o
 piece-written t off len p o r o′ few low room x =
-    let e : answerOf (fragmentOf t off len) (length p) (length o) ≡ gives (fragmentSize off len (length p)) =
-    simp (le-ltb 65515 (length p) few, le-ltb 8191 off low, le-ltb (length o) (fragmentSize off len (length p)) room) in
-    x .after ∙ ap (λ (a : Answer ℕ). leaves a (packetOf (fragmentOf t off len) p) o) e
+    x .after ∙ ap (λ (a : Answer ℕ). leaves a (packetOf (fragmentOf t off len) p) o) (piece-given t off len (length p) (length o) few low room)
 
 -- ---- a turn: so many pieces are behind the one at block off, and the record goes to place at
 
@@ -114,13 +108,9 @@ written-on a b o at k h e =
     ap (λ (x : ℕ). drop (x + k) (take at o ++ w)) (sym n) ∙ drop-append-add (take at o) w k in
     rw (f, g, append-assoc) (ap (λ (x : List ℕ). take at o ++ x) (written-then a b (drop at o) k e))
 
-pub written-none : (at : ℕ) (o : List ℕ) → take at o ++ written [] (drop at o) ≡ o
+pub none-behind : (at : ℕ) (o : List ℕ) → take at o ++ written [] (drop at o) ≡ o
 unfolding written
-written-none at o = take-append-drop at o
-
--- what a part that was lent from place at on leaves in the whole
-pub put-behind : (a o e : List ℕ) (at : ℕ) → e ≡ written a (midOf at (length o - at) o) → putMid at (length o - at) o e ≡ take at o ++ written a (drop at o)
-put-behind a o e at h = let f : e ≡ written a (drop at o) = h ∙ ap (written a) (mid-tail at o) in rw (f, post-tail at o, append-nil)
+none-behind at o = take-append-drop at o
 
 pub behind-length : (a o : List ℕ) (at : ℕ) → at + length a ≤ length o → length (take at o ++ written a (drop at o)) ≡ length o
 behind-length a o at h =

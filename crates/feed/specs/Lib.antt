@@ -1,3 +1,4 @@
 pub mod Cutting
 pub mod Feed
+pub mod Runs
 pub mod Steps

@@ -15,6 +15,22 @@ use Rattle.pcap.proofs.Answers.{fitting-fits, record-fits}
 use Rattle.pcap.proofs.Pcap.{record-length, file-header-length}
 use Rattle.pcap.proofs.Read.{capture-read}
 
+-- ---- records behind others
+
+pub records-append : (rs ss : List Stamped) → recordsBytes (rs ++ ss) ≡ recordsBytes rs ++ recordsBytes ss
+unfolding recordsBytes
+records-append [] ss = refl
+records-append (r ∷ rs) ss =
+    let one : List ℕ = recordBytes (r .sec) (r .usec) (r .packet) in
+    ap (λ (l : List ℕ). one ++ l) (records-append rs ss) ∙ sym (append-assoc one (recordsBytes rs) (recordsBytes ss))
+
+pub takable-append : (rs ss : List Stamped) → AllTakable rs → AllTakable ss → AllTakable (rs ++ ss)
+unfolding AllTakable
+takable-append [] ss h k = k
+takable-append (r ∷ rs) ss (h, t) k = (h, takable-append rs ss t k)
+
+-- ---- calls one behind the other
+
 -- What is written into the output from the end of a on, behind a that was written before.
 part-written : (a b o₀ o part : List ℕ) (n : ℕ) → length a ≡ n → o ≡ written a o₀ → part ≡ written b (drop n o) → take n o ++ part ≡ written (a ++ b) o₀
 part-written a b o₀ o part n l is p = rw (p, is) (written-then a b o₀ n l)

@@ -16,7 +16,7 @@ use Rattle.ezpkt.specs.Build.{packetOf, isBadOffset, Answered}
 use Rattle.ezpkt.specs.Ip4.{fragmentOf}
 use Rattle.ezpkt.specs.declared.ip4.Template.{Template}
 use Rattle.ezpkt.specs.declared.build.Built.the-variants as built
-use Rattle.ezpkt.proofs.Deciding.{piece-fits}
+use Rattle.ezpkt.proofs.Deciding.{piece-fits, piece-given}
 use Rattle.ezpkt.proofs.Only.{built-only}
 use Rattle.ezpkt.proofs.Sizes.{size-is}
 use Rattle.pieces.specs.declared.BlockRequest.{BlockRequest}
@@ -25,7 +25,6 @@ use Rattle.pieces.specs.declared.Pieces.the-variants.{Written}
 use Rattle.pieces.specs.Fragments.{packetsOf, sizeFor, endsFrom, sumOf, firstBad, fragmentsAnswer, Fragmented}
 use Rattle.pieces.specs.OneByOne.{OneByOne, none, one, requestAt, RefusedBy2, NotRefusedBy2, ListEquals}
 use Rattle.pieces.proofs.Only.{pieces-only}
-use Rattle.pieces.proofs.Putting as putting
 use Rattle.pieces.proofs.Turns.{Fits, Decided, stopped, stopped-at, goes, decided, near-before, written-none}
 
 -- the packet of a request
@@ -38,7 +37,7 @@ packet t p r = packetOf (fragmentOf t (r .off) (r .len)) p
 takes : (t : Template) (r : BlockRequest) (p o : List ℕ) → length p ≤ mostIp → r .off ≤ mostOffset → sizeFor (length p) r ≤ length o
     → Answered (fragmentOf t (r .off) (r .len)) p o (built.Packet (sizeFor (length p) r)) (written (packet t p r) o)
 takes t r p o few near fits =
-    let yes = putting.accepted t r (length p) (length o) few near fits in
+    let yes = piece-given t (r .off) (r .len) (length p) (length o) few near fits in
     record { answer = sym yes; after = ap (λ (a : Answer ℕ). leaves a (packet t p r) o) (sym yes) }
 
 -- what an accepted call tells of its request, of its length and of its bytes

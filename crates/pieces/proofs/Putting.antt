@@ -1,14 +1,15 @@
 -- One packet more: `fragment` takes the request, and leaves its packet behind the bytes before.
 use mathlib.Core.Path.{_≡_, ap, _∙_}
-use mathlib.Core.List.{List, _++_, append-nil}
-use Prim.Native.Nat.{ℕ, _-_, _≤_}
+use mathlib.Core.List.{List, _++_}
+use Prim.Native.Nat.{ℕ, _-_}
 use native.Mathlib.Omega.{arith}
 use lib.ListN.{length, take, drop, length-drop}
-use borrow.Author.Tests.{le-ltb}
 use borrow.Rule.Slice.PartMut.{midOf, putMid}
 use Rattle.pkt.specs.Answers.{Answer, gives}
 use Rattle.pkt.specs.Written.{written, leaves}
-use Rattle.pkt.proofs.Parts.{mid-tail, post-tail}
+use Rattle.pkt.proofs.Parts.{mid-tail}
+use Rattle.pkt.proofs.Written.{put-behind}
+use Rattle.ezpkt.proofs.Deciding.{piece-given}
 use Rattle.ezpkt.specs.Answers.{builtSays}
 use Rattle.ezpkt.specs.Build.{packetOf, answerOf, Answered}
 use Rattle.ezpkt.specs.Ip4.{fragmentOf}
@@ -18,11 +19,6 @@ use Rattle.pieces.specs.declared.BlockRequest.{BlockRequest}
 use Rattle.pieces.specs.Fragments.{sizeFor}
 use Rattle.pieces.specs.Survey.{lengthOf, PutAsks}
 
--- a request that is near enough, of a payload that is short enough, is taken where its packet has room
-pub accepted : (t : Template) (r : BlockRequest) (n room : ℕ) → n ≤ 65515 → r .off ≤ 8191 → sizeFor n r ≤ room
-    → answerOf (fragmentOf t (r .off) (r .len)) n room ≡ gives (sizeFor n r)
-accepted t r n room few near fits = simp (le-ltb _ _ few, le-ltb _ _ near, le-ltb _ _ fits)
-
 module _ (t : Template) (r : BlockRequest) (i at : ℕ) (p o : List ℕ) (places : ℕ) (asks : PutAsks r i at (length p) (length o) places) (s : Built) (o₁ : List ℕ)
     (call : Answered (fragmentOf t (r .off) (r .len)) p (midOf at (length o - at) o) s o₁) where
   part-is : midOf at (length o - at) o ≡ drop at o
@@ -31,7 +27,7 @@ module _ (t : Template) (r : BlockRequest) (i at : ℕ) (p o : List ℕ) (places
   taken : answerOf (fragmentOf t (r .off) (r .len)) (length p) (length (midOf at (length o - at) o)) ≡ gives (sizeFor (length p) r)
   taken =
       ap (λ (l : List ℕ). answerOf (fragmentOf t (r .off) (r .len)) (length p) (length l)) part-is
-      ∙ accepted t r (length p) (length (drop at o)) (asks .few) (asks .near) (omega (arith, length-drop at o, asks .room-for))
+      ∙ piece-given t (r .off) (r .len) (length p) (length (drop at o)) (asks .few) (asks .near) (omega (arith, length-drop at o, asks .room-for))
 
   pub put-size : lengthOf (builtSays s) ≡ sizeFor (length p) r
   put-size = ap lengthOf (call .answer ∙ taken)
@@ -39,6 +35,4 @@ module _ (t : Template) (r : BlockRequest) (i at : ℕ) (p o : List ℕ) (places
   pub put-output : putMid at (length o - at) o o₁ ≡ take at o ++ written (packetOf (fragmentOf t (r .off) (r .len)) p) (drop at o)
   put-output =
       let pk : List ℕ = packetOf (fragmentOf t (r .off) (r .len)) p in
-      let e : o₁ ≡ written pk (drop at o) =
-      call .after ∙ ap (λ (a : Answer ℕ). leaves a pk (midOf at (length o - at) o)) taken ∙ ap (written pk) part-is in
-      rw (e, post-tail at o, append-nil)
+      put-behind pk o o₁ at (call .after ∙ ap (λ (a : Answer ℕ). leaves a pk (midOf at (length o - at) o)) taken)

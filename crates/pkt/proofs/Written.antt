@@ -1,5 +1,5 @@
 -- Laws of bytes written into a buffer.
-use mathlib.Core.Path.{_≡_, refl, sym, ap}
+use mathlib.Core.Path.{_≡_, refl, sym, ap, _∙_}
 use Prim.Native.Nat.{ℕ, zero, suc, _+_, _-_, _≤_, _<_}
 use native.Mathlib.Omega.{arith}
 use native.Mathlib.Nat.{le-of-suc-le-suc}
@@ -29,6 +29,10 @@ pub written-then : (a b d : List ℕ) (n : ℕ) → length a ≡ n → take n (w
 unfolding written
 written-then a b d n h =
     rw (take-at a (drop (length a) d) n h, drop-at a (drop (length a) d) n h, drop-drop, length-append) (sym (append-assoc a b _))
+
+-- What o holds once a was written into `&mut o[at..]`.
+pub put-behind : (a o e : List ℕ) (at : ℕ) → e ≡ written a (midOf at (length o - at) o) → putMid at (length o - at) o e ≡ take at o ++ written a (drop at o)
+put-behind a o e at h = let f : e ≡ written a (drop at o) = h ∙ ap (written a) (mid-tail at o) in rw (f, post-tail at o, append-nil)
 
 -- What d₁ holds once b was written into `&mut d₁[n..]`, behind a that was written into d before.
 pub written-behind : (a b₀ b d d₁ e : List ℕ) (n : ℕ) → length a ≡ n → d₁ ≡ written a d → b₀ ≡ b

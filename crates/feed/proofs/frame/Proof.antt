@@ -14,7 +14,7 @@ use Rattle.feed.specs.declared.Feed.{Feed}
 use Rattle.feed.specs.Cutting.{blocksIn, pieceCount}
 use Rattle.feed.specs.Feed.{frameDgram, payloadOf, frameRecords, piecesFor, feedAnswer, writtenFor}
 use Rattle.feed.specs.Steps.{recordsFrom}
-use Rattle.feed.proofs.Counting.{count-some, count-within}
+use Rattle.feed.proofs.Counting.{count-some, begins-within}
 use Rattle.feed.proofs.Feeding.{granted, payload-length, payload-lent}
 use Rattle.feed.proofs.frame.Statement.{statement}
 use Rattle.feed.proofs.frame.Tie as tie
@@ -124,7 +124,7 @@ put-all-requires c κs =
     let pl : length (take k (drop 20 (at-datagram .datagram .last .1 .1 .0))) ≡ 8 + n =
     ap (λ (l : List ℕ). length (take k (drop 20 l))) (at-datagram .datagram .ensures)
     ∙ ap length (payload-lent (a .feed) (a .bytes .now) (a .scratch .now) k (omega arith)) ∙ payload-length (a .feed) (a .bytes .now) in
-    let w = count-within (8 + n) (a .feed .link) (t .least) in
+    let w = begins-within (8 + n) (a .feed .link) (t .least) in
     record {
       few = omega (arith, pl, t .few);
       some = omega (arith, t .least);

@@ -11,7 +11,8 @@ use Rattle.ezpkt.specs.Build.{packetOf}
 use Rattle.ezpkt.specs.Ip4.{fragmentOf}
 use Rattle.pcap.specs.Pcap.{recordBytes}
 use Rattle.feed.specs.Steps.{recordLong, recordsFrom}
-use Rattle.feed.proofs.Recording.{Turn, turnSize, turn-room, turn-next, records-step, records-none, record-long, written-on, written-none, put-behind, behind-length, as-small, turn-as}
+use Rattle.pkt.proofs.Written.{put-behind}
+use Rattle.feed.proofs.Recording.{Turn, turnSize, turn-room, turn-next, records-step, records-none, record-long, written-on, none-behind, behind-length, as-small, turn-as}
 use Rattle.feed.proofs.put_all.Statement.{statement}
 use Rattle.feed.proofs.put_all.Tie as tie
 
@@ -104,7 +105,7 @@ returns c =
     let at-loop = c .before in
     let a = at-loop .before .before .before .args in
     let l = at-loop .loop in
-    sym (written-none (l .at) (l .out))
+    sym (none-behind (l .at) (l .out))
     ∙ ap (λ (x : List ℕ). take (l .at) (l .out) ++ written x (drop (l .at) (l .out)))
     (sym (records-none (a .template) (a .payload .now) (a .blocks) (l .left) (l .off) (a .sec) (a .usec) (omega arith)))
     ∙ l .inv .3
