@@ -1,0 +1,3 @@
+pub mod Putting
+pub mod Reading
+pub mod Texts
