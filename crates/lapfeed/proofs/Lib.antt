@@ -1,3 +1,4 @@
+pub mod Examples
 pub mod Putting
 pub mod Reading
 pub mod Texts

@@ -1,12 +1,12 @@
 -- A frame that may go out is not refused, and its records have room.
-use mathlib.Core.Path.{_≡_, refl, sym, ap, _∙_}
+use mathlib.Core.Path.{_≡_, ap, _∙_}
 use mathlib.Core.List.{List}
-use Prim.Native.Nat.{ℕ, _+_, _-_, _*_, _/_, _≤_, _<_}
+use Prim.Native.Nat.{ℕ, _+_, _-_, _*_, _≤_, _<_}
 use native.Mathlib.Nat.{div-lt-iff-lt-mul}
 use native.Mathlib.Omega.{arith}
 use lib.ListN.{length, take, drop, length-take}
 use borrow.Author.Tests.{le-ltb}
-use Rattle.pkt.specs.Answers.{Answer, refused, gives, mapped}
+use Rattle.pkt.specs.Answers.{Answer, gives, mapped}
 use Rattle.pkt.specs.Written.{written, leaves}
 use Rattle.pcap.specs.Pcap.{recordsBytes}
 use Rattle.feed.specs.declared.Feed.{Feed}

@@ -19,6 +19,11 @@ use Rattle.lapfeed.specs.Words.{allDigits, isPlain, valueOf, isNumber, n
 use Rattle.lapfeed.specs.Frames.{SetUp}
 use Rattle.lapfeed.specs.Steps.{digitsIn}
 
+-- one part that is wrong
+pub and-fails : (b : Bool) → (b && false) ≡ false
+and-fails true = refl
+and-fails false = refl
+
 -- ---- a number
 
 -- a choice that is a number, and one that is none

@@ -1,15 +1,15 @@
 -- Words read from the front: what is left, read from here, is the whole.
 use mathlib.Core.Path.{_≡_, refl, sym, ap, _∙_}
-use mathlib.Core.Bool.{Bool, true, false, _&&_, cond, not}
+use mathlib.Core.Bool.{not}
 use mathlib.Core.List.{List, [], _∷_, _++_, append-nil, append-assoc}
-use Prim.Native.Nat.{ℕ, zero, suc, _+_, _-_, _*_, _≤_, _<_}
+use Prim.Native.Nat.{ℕ, suc, _+_, _-_, _*_, _≤_, _<_}
 use native.Mathlib.Numerals.{add-one}
 use native.Mathlib.Omega.{arith}
 use lib.ListN.{length, getD, take, drop, drop-of-length-le}
-use lib.Seq.{drop-cons, take-suc, take-all, append-snoc}
-use lib.Dec.{leb, eqb}
+use lib.Seq.{drop-cons, take-suc, take-all}
+use lib.Dec.{eqb}
 use borrow.Author.Tests.{le-leb, lt-leb, eq-eqb, ne-eqb}
-use Rattle.lapfeed.specs.declared.words.Number.{Number}
+use Rattle.lapfeed.proofs.Reading.{and-fails}
 use Rattle.lapfeed.specs.declared.words.Number.the-variants.{Is, Wrong}
 use Rattle.lapfeed.specs.Words.{allDigits, isPlain, valueFrom, before, behind}
 use Rattle.lapfeed.specs.Steps.{digitsIn, Found}
@@ -32,10 +32,6 @@ value-grows : (v : ℕ) (cs : List ℕ) → v ≤ valueFrom v cs
 unfolding valueFrom
 value-grows v [] = omega arith
 value-grows v (c ∷ cs) = omega (arith, value-grows (10 * v + (c - 48)) cs)
-
-and-fails : (b : Bool) → (b && false) ≡ false
-and-fails true = refl
-and-fails false = refl
 
 digits-large : (most v : ℕ) (cs : List ℕ) → most < v → Wrong ≡ digitsIn most v cs
 unfolding digitsIn

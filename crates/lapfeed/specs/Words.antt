@@ -4,7 +4,8 @@ use mathlib.Core.Bool.{Bool, true, false, _&&_, cond, not}
 use mathlib.Core.List.{List, [], _∷_}
 use lib.Dec.{leb, eqb}
 use Rattle.ezpkt.specs.declared.SocketAddrV4.{SocketAddrV4}
-use Rattle.feed.specs.Feed.{newFeed}
+use Rattle.pkt.specs.Answers.{mostUdp}
+use Rattle.feed.specs.Feed.{newFeed, leastLink, mostLink}
 use Rattle.lapfeed.specs.declared.words.Number.{Number}
 use Rattle.lapfeed.specs.declared.words.Number.the-variants as number
 use Rattle.lapfeed.specs.declared.words.Address.{Address}
@@ -24,7 +25,7 @@ isPlain [] = false
 isPlain (c ∷ []) = true
 isPlain (c ∷ d ∷ cs) = not (eqb c 48)
 
--- the number of digits that stand behind those of v
+-- what digits stand for, the first the highest, behind digits that stand for v
 unfoldable pub valueFrom : ℕ → List ℕ → ℕ
 valueFrom v [] = v
 valueFrom v (c ∷ cs) = valueFrom (10 * v + (c - 48)) cs
@@ -84,7 +85,7 @@ addressIn w = cond (isAddress w) (address.Is (addressOf w)) address.Wrong
 
 -- All four: two addresses, a link of 28 to 65,535 bytes, and frames of 1 to 65,507.
 abbrev pub areWords : List ℕ → List ℕ → List ℕ → List ℕ → Bool
-areWords car core link size = isAddress car && isAddress core && isNumber 28 65535 link && isNumber 1 65507 size
+areWords car core link size = isAddress car && isAddress core && isNumber leastLink mostLink link && isNumber 1 mostUdp size
 
 abbrev pub setupOf : List ℕ → List ℕ → List ℕ → List ℕ → Setup
 setupOf car core link size = record { feed = newFeed (addressOf car) (addressOf core) (valueOf link); size = valueOf size }

@@ -14,7 +14,7 @@ pub const MOST_FRAMES: u64 = 1030792151040;
 // The bytes of the records of 65,507 bytes of telemetry on a link of 28 bytes: 8,190 pieces with 36 before each, and the datagram.
 pub const MOST_RECORDS: usize = 360355;
 
-// The second of frame i.
+// The second of frame i: there are 240 frames in each, from second 0 on.
 fn second(i: u64) -> u32
     requires { ⌜ i < mostFrames ⌝ }
     ensures { λ r. ⌜ r ≡ secondOf i ⌝ }
@@ -22,7 +22,7 @@ fn second(i: u64) -> u32
     (i / 240) as u32
 }
 
-// The microsecond of frame i.
+// The microsecond of frame i, rounded down.
 fn micro(i: u64) -> u32
     ensures { λ r. ⌜ (r ≡ microOf i) × (r ≤ mostMicros) ⌝ }
 {

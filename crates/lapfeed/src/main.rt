@@ -9,12 +9,11 @@ use libc::STDOUT_FILENO;
 use pkt::limit;
 use words::Setup;
 use words::Words;
-ghost use mathlib.Core.Path.{_≡_};
 ghost use Prim.Native.Nat.{_≤_};
 ghost use lib.ListN.{length};
 ghost use Rattle.lapfeed.specs.Frames.{Ready, Follows, SetUp};
 
-// What was read: so many bytes at the start of the buffer, all unless the input ended, and whether that failed.
+// What was read: n bytes, and whether reading failed.
 struct Got {
     n: usize,
     failed: bool,
@@ -26,6 +25,7 @@ enum Turn {
     Done,
 }
 
+// Reads until the buffer is full or the input ends.
 fn fill(buf: &mut [u8]) -> Got
     ensures { λ r. ⌜ r .n ≤ length (now (buf .exit)) ⌝ }
 {
@@ -78,7 +78,8 @@ fn say_full() {
     );
 }
 
-// Every frame, from number 0 on.
+// Every frame, from number 0 on. A loop has to end, and nothing says that the input does: this one stops where the 32 bits of a second do, after
+// 136 years of telemetry.
 fn feed_all(first: Feed, input: &mut [u8], scratch: &mut [u8], out: &mut [u8])
     requires { ⌜ Ready first 0 (length (now input)) (length (now scratch)) (length (now out)) ⌝ }
 {

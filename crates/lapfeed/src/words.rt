@@ -4,7 +4,6 @@ use ezpkt::part;
 use feed::Feed;
 ghost use mathlib.Core.Path.{_≡_};
 ghost use Prim.Native.Nat.{_+_, _*_, _≤_};
-ghost use lib.ListN.{length, take, drop};
 ghost use Rattle.lapfeed.specs.Words.{isPlain, numberIn, before, behind, partsIn, addressIn, wordsIn};
 ghost use Rattle.lapfeed.specs.Steps.{digitsIn, Found};
 

@@ -1,6 +1,6 @@
 -- The identification is the number of the frame, and the link and the lengths of the buffers stay.
 use mathlib.Core.Path.{_≡_, ap}
-use Prim.Native.Nat.{ℕ, _-_, _%_, _≤_}
+use Prim.Native.Nat.{_-_, _%_}
 use native.Mathlib.Omega.{arith}
 use lib.ListN.{length}
 use borrow.Author.Needs.{needs}

@@ -1,8 +1,7 @@
 -- What is read lies within the buffer, whose length stays.
 use mathlib.Core.Path.{_≡_}
 use Prim.Native.Nat.{_-_, _≤_}
-use lib.ListN.{length, length-drop}
-use native.Mathlib.Omega.{arith}
+use lib.ListN.{length}
 use borrow.Author.Needs.{needs}
 use Rattle.lapfeed.proofs.fill.Statement.{statement}
 use Rattle.lapfeed.proofs.fill.Tie as tie

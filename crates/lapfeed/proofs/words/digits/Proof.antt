@@ -2,7 +2,6 @@
 use mathlib.Core.Path.{_≡_, refl}
 use Prim.Native.Nat.{_-_, _≤_}
 use lib.ListN.{length, drop}
-use native.Mathlib.Omega.{arith}
 use borrow.Author.Needs.{needs}
 use Rattle.lapfeed.specs.Steps.{digitsIn}
 use Rattle.lapfeed.proofs.Texts.{digits-end, low-at, high-at, next-at, large-at}

@@ -2,7 +2,6 @@
 use mathlib.Core.Path.{_≡_}
 use Prim.Native.Nat.{_-_}
 use lib.ListN.{length}
-use native.Mathlib.Omega.{arith}
 use borrow.Author.Needs.{needs}
 use Rattle.lapfeed.proofs.Texts.{Passed, passed-none, passed-on, found-here, found-none}
 use Rattle.lapfeed.proofs.words.find.Statement.{statement}

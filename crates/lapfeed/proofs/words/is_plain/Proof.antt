@@ -1,5 +1,3 @@
-use Prim.Native.Nat.{_≤_}
-use native.Mathlib.Omega.{arith}
 use borrow.Author.Needs.{needs}
 use Rattle.lapfeed.proofs.Texts.{plain-short, plain-long}
 use Rattle.lapfeed.proofs.words.is_plain.Statement.{statement}

@@ -4,59 +4,24 @@ use Prim.Native.Nat.{_+_, _*_}
 use native.Mathlib.Omega.{arith}
 use borrow.Author.Needs.{needs}
 use Rattle.lapfeed.specs.declared.words.Address.the-variants.{Is}
-use Rattle.lapfeed.proofs.Reading.{number-wrong, number-good, number-most}
+use Rattle.lapfeed.proofs.Reading.{and-fails, number-wrong, number-good, number-most}
 use Rattle.lapfeed.proofs.words.read_parts.Statement.{statement}
 use Rattle.lapfeed.proofs.words.read_parts.Tie as tie
 
 returns : tie.Need-returns
-returns c =
-    let at1 = c .before .before in
-    let g1 = number-wrong _ _ _ _ (at1 .read-number .ensures) (c .enum-told .given .1) in
-    simp g1
+returns c = simp (number-wrong _ _ _ _ (c .before .before .read-number .ensures) (c .enum-told .given .1), and-fails)
 
 returns-2 : tie.Need-returns-2
-returns-2 c =
-    let at2 = c .before .before in
-    let at1 = at2 .before .before .before .before in
-    let g1 = number-good _ _ _ _ (at1 .read-number .ensures) _ (at2 .before .before .a .given .1) in
-    let g2 = number-wrong _ _ _ _ (at2 .read-number2 .ensures) (c .enum-told2 .given .1) in
-    simp (g1 .0, g2)
+returns-2 c = simp (number-wrong _ _ _ _ (c .before .before .read-number2 .ensures) (c .enum-told2 .given .1), and-fails)
 
 returns-3 : tie.Need-returns-3
-returns-3 c =
-    let at3 = c .before .before in
-    let at2 = at3 .before .before .before .before in
-    let at1 = at2 .before .before .before .before in
-    let g1 = number-good _ _ _ _ (at1 .read-number .ensures) _ (at2 .before .before .a .given .1) in
-    let g2 = number-good _ _ _ _ (at2 .read-number2 .ensures) _ (at3 .before .before .b .given .1) in
-    let g3 = number-wrong _ _ _ _ (at3 .read-number3 .ensures) (c .enum-told3 .given .1) in
-    simp (g1 .0, g2 .0, g3)
+returns-3 c = simp (number-wrong _ _ _ _ (c .before .before .read-number3 .ensures) (c .enum-told3 .given .1), and-fails)
 
 returns-4 : tie.Need-returns-4
-returns-4 c =
-    let at4 = c .before .before in
-    let at3 = at4 .before .before .before .before in
-    let at2 = at3 .before .before .before .before in
-    let at1 = at2 .before .before .before .before in
-    let g1 = number-good _ _ _ _ (at1 .read-number .ensures) _ (at2 .before .before .a .given .1) in
-    let g2 = number-good _ _ _ _ (at2 .read-number2 .ensures) _ (at3 .before .before .b .given .1) in
-    let g3 = number-good _ _ _ _ (at3 .read-number3 .ensures) _ (at4 .before .before .c .given .1) in
-    let g4 = number-wrong _ _ _ _ (at4 .read-number4 .ensures) (c .enum-told4 .given .1) in
-    simp (g1 .0, g2 .0, g3 .0, g4)
+returns-4 c = simp (number-wrong _ _ _ _ (c .before .before .read-number4 .ensures) (c .enum-told4 .given .1), and-fails)
 
 returns-5 : tie.Need-returns-5
-returns-5 c =
-    let at5 = c .before .before in
-    let at4 = at5 .before .before .before .before in
-    let at3 = at4 .before .before .before .before in
-    let at2 = at3 .before .before .before .before in
-    let at1 = at2 .before .before .before .before in
-    let g1 = number-good _ _ _ _ (at1 .read-number .ensures) _ (at2 .before .before .a .given .1) in
-    let g2 = number-good _ _ _ _ (at2 .read-number2 .ensures) _ (at3 .before .before .b .given .1) in
-    let g3 = number-good _ _ _ _ (at3 .read-number3 .ensures) _ (at4 .before .before .c .given .1) in
-    let g4 = number-good _ _ _ _ (at4 .read-number4 .ensures) _ (at5 .before .before .d .given .1) in
-    let g5 = number-wrong _ _ _ _ (at5 .read-number5 .ensures) (c .enum-told5 .given .1) in
-    simp (g1 .0, g2 .0, g3 .0, g4 .0, g5)
+returns-5 c = simp (number-wrong _ _ _ _ (c .before .before .read-number5 .ensures) (c .enum-told5 .given .1), and-fails)
 
 ip-of-requires : tie.Need-ip-of-requires
 ip-of-requires c κs =

@@ -3,45 +3,21 @@ use mathlib.Core.Path.{_∙_}
 use borrow.Author.Needs.{needs}
 use Rattle.feed.specs.Feed.{newFeed}
 use Rattle.lapfeed.specs.declared.words.Words.the-variants.{Good}
-use Rattle.lapfeed.proofs.Reading.{number-wrong, number-good, address-wrong, address-good}
+use Rattle.lapfeed.proofs.Reading.{and-fails, number-wrong, number-good, address-wrong, address-good}
 use Rattle.lapfeed.proofs.words.read_words.Statement.{statement}
 use Rattle.lapfeed.proofs.words.read_words.Tie as tie
 
 returns : tie.Need-returns
-returns c =
-    let at1 = c .before .before in
-    let g1 = address-wrong _ _ (at1 .read-address .ensures) (c .enum-told .given .1) in
-    simp g1
+returns c = simp (address-wrong _ _ (c .before .before .read-address .ensures) (c .enum-told .given .1), and-fails)
 
 returns-2 : tie.Need-returns-2
-returns-2 c =
-    let at2 = c .before .before in
-    let at1 = at2 .before .before .before .before in
-    let g1 = address-good _ _ (at1 .read-address .ensures) _ (at2 .before .before .from .given .1) in
-    let g2 = address-wrong _ _ (at2 .read-address2 .ensures) (c .enum-told2 .given .1) in
-    simp (g1 .0, g2)
+returns-2 c = simp (address-wrong _ _ (c .before .before .read-address2 .ensures) (c .enum-told2 .given .1), and-fails)
 
 returns-3 : tie.Need-returns-3
-returns-3 c =
-    let at3 = c .before .before in
-    let at2 = at3 .before .before .before .before in
-    let at1 = at2 .before .before .before .before in
-    let g1 = address-good _ _ (at1 .read-address .ensures) _ (at2 .before .before .from .given .1) in
-    let g2 = address-good _ _ (at2 .read-address2 .ensures) _ (at3 .before .before .to .given .1) in
-    let g3 = number-wrong _ _ _ _ (at3 .read-number .ensures) (c .enum-told3 .given .1) in
-    simp (g1 .0, g2 .0, g3)
+returns-3 c = simp (number-wrong _ _ _ _ (c .before .before .read-number .ensures) (c .enum-told3 .given .1), and-fails)
 
 returns-4 : tie.Need-returns-4
-returns-4 c =
-    let at4 = c .before .before in
-    let at3 = at4 .before .before .before .before in
-    let at2 = at3 .before .before .before .before in
-    let at1 = at2 .before .before .before .before in
-    let g1 = address-good _ _ (at1 .read-address .ensures) _ (at2 .before .before .from .given .1) in
-    let g2 = address-good _ _ (at2 .read-address2 .ensures) _ (at3 .before .before .to .given .1) in
-    let g3 = number-good _ _ _ _ (at3 .read-number .ensures) _ (at4 .before .before .link .given .1) in
-    let g4 = number-wrong _ _ _ _ (at4 .read-number2 .ensures) (c .enum-told4 .given .1) in
-    simp (g1 .0, g2 .0, g3 .0, g4)
+returns-4 c = simp (number-wrong _ _ _ _ (c .before .before .read-number2 .ensures) (c .enum-told4 .given .1), and-fails)
 
 returns-5 : tie.Need-returns-5
 returns-5 c =
