@@ -50,6 +50,7 @@ static void status(uint8_t number)
         [WB_BAD_SUM] = "bad checksum",
         [WB_BAD_PART] = "bad part",
         [WB_BAD_TIME] = "bad time",
+        [WB_RESERVED] = "reserved bit",
     };
     printf("  %d, %s", number, number < sizeof says / sizeof *says ? says[number] : "?");
 }
@@ -359,6 +360,8 @@ static void checks(void)
     MAKE(checked, wb_check(with(0, 0x46, 0), 32));
     MAKE(checked, wb_check(with(2, 0, 19), 32));
     MAKE(checked, wb_check(with(10, 0, 0), 32));
+    MAKE(checked, wb_check(with(6, 0x80, 0), 32));
+    MAKE(checked, wb_check(with(6, 0x80, 1), 32));
     MAKE(checked, wb_check(with(6, 0x20, 0), 32));
     MAKE(checked, wb_check(with(8, 64, 2), 32));
     MAKE(checked, wb_check(with(24, 0, 13), 32));
@@ -410,6 +413,7 @@ static void assembling(void)
     zero.key.id = 0;
     MAKE(taken, wb_assembly_take(above, last, 24, payload, sizeof payload, map, sizeof map));
     MAKE(progress, wb_assembly_progress(above, payload, sizeof payload, map, sizeof map));
+    MAKE(taken, wb_assembly_take(zero, with(6, 0xa0, 0), 32, payload, sizeof payload, map, sizeof map));
     MAKE(taken, wb_assembly_take(zero, with(6, 0x20, 0), 32, payload, sizeof payload, map, sizeof map));
     MAKE(taken, wb_assembly_take(zero, with(6, 0x1f, 0xff), 32, payload, sizeof payload, map, sizeof map));
     a = MAKE(taken, wb_assembly_take(a, past, 20, payload, sizeof payload, map, sizeof map));

@@ -38,7 +38,7 @@ extern "C" {
 
 /* ---- the version: another number after each change of a struct or a call, also where every size stays. The header is
  * the archive's exactly if wb_version answers WB_VERSION. */
-#define WB_VERSION 4
+#define WB_VERSION 5
 
 uint32_t wb_version(void);
 
@@ -63,7 +63,8 @@ enum {
                                not the IPv4 payload's */
     WB_BAD_SUM = 15,        /* transport checksum does not verify */
     WB_BAD_PART = 16,       /* headroom > end, end > buffer or end > 1,048,576 */
-    WB_BAD_TIME = 17        /* microseconds above 999,999 */
+    WB_BAD_TIME = 17,       /* microseconds above 999,999 */
+    WB_RESERVED = 18        /* the reserved bit of the IPv4 header is set */
 };
 
 /* ---- bounds: what is above them is refused by 1, by 2 (the offset), by 16 (the end) or by 17 (the microseconds) */
@@ -345,7 +346,7 @@ typedef struct {
     bool no_checksum;
 } wb_checked;
 
-/* Refuses by 4, 5, 6, 4, 7, 13, 12, 14, 15. Bytes after the packet's total length do not count. */
+/* Refuses by 4, 5, 6, 4, 7, 18, 13, 12, 14, 15. Bytes after the packet's total length do not count. */
 wb_checked wb_check(const uint8_t *packet, size_t packet_len);
 
 /* ---- putting pieces together
@@ -396,7 +397,7 @@ wb_opened wb_assembly_open(wb_key key, uint8_t *payload, size_t payload_len, uin
  * Waiting: bytes are missing still. Complete: payload holds the datagram's IPv4 payload in its first total bytes; a
  * later piece may still spoil it. Spoilt: two pieces contradict each other. The piece that spoils zeroes both buffers.
  * Where spoilt is true already, both buffers stay, and the record comes back as it was, with total 0 where known is
- * false. Refuses by 11, 4, 5, 6, 4, 7, 8, 9, 10. */
+ * false. Refuses by 11, 4, 5, 6, 4, 7, 18, 8, 9, 10. */
 wb_taken wb_assembly_take(wb_assembly before, const uint8_t *packet, size_t packet_len, uint8_t *payload,
                           size_t payload_len, uint8_t *map, size_t map_len);
 

@@ -16,9 +16,9 @@ macro_rules! refusals {
 
         impl Refusal {
             /// Every refusal, by number.
-            pub const ALL: [Self; 17] = [$(Self::$name),+];
+            pub const ALL: [Self; 18] = [$(Self::$name),+];
 
-            /// When it is given, in document 01's words.
+            /// When it is given, in the words of documents 01 and 02.
             pub fn words(self) -> &'static str {
                 match self {
                     $(Self::$name => $words,)+
@@ -46,10 +46,11 @@ refusals! {
     BadSum = 15: "transport checksum does not verify",
     BadPart = 16: "headroom record with headroom > end, end > buffer or end (also the new one) > 1,048,576; a part not within the packet; lowering by more than the headroom; returning from another place or more than the packet",
     BadTime = 17: "microseconds above 999,999",
+    Reserved = 18: "reserved bit of the IPv4 header set",
 }
 
 impl Refusal {
-    /// Document 01's number, 1 to 17.
+    /// Its number in documents 01 and 02, 1 to 18.
     pub fn number(self) -> u8 {
         self as u8
     }
@@ -64,7 +65,7 @@ impl Refusal {
     pub(crate) fn unless_accepted(status: u8) -> Result<(), Self> {
         match status {
             0 => Ok(()),
-            n => Err(Self::of_number(n).expect("a status is proved to be at most 17")),
+            n => Err(Self::of_number(n).expect("a status is proved to be at most 18")),
         }
     }
 

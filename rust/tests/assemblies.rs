@@ -204,6 +204,11 @@ fn each_refusal_leaves_all_as_it_was() {
         (changed(piece.clone(), &[(0, 0x46)]), Refusal::NotIpv4),
         (changed(piece.clone(), &[(3, 19)]), Refusal::BadTotal),
         (unsummed, Refusal::BadHeader),
+        (changed(piece.clone(), &[(6, 0xa0)]), Refusal::Reserved),
+        (
+            changed(piece.clone(), &[(6, 0xa0), (5, 8)]),
+            Refusal::Reserved,
+        ),
         (changed(piece.clone(), &[(5, 8)]), Refusal::WrongKey),
         (changed(piece.clone(), &[(12, 11)]), Refusal::WrongKey),
         (changed(piece.clone(), &[(19, 3)]), Refusal::WrongKey),

@@ -41,6 +41,12 @@ fn missing_bytes_a_bad_header_and_pieces() {
     let mut bad = packet.clone();
     bad[10] ^= 1;
     assert_eq!(check(&bad), Err(Refusal::BadHeader));
+    bad[6] |= 0x80;
+    assert_eq!(check(&bad), Err(Refusal::BadHeader));
+    for (low, more) in [(0, 0), (1, 0), (0, 0x20)] {
+        let reserved = changed(packet.clone(), &[(6, 0x80 + more), (7, low)]);
+        assert_eq!(check(&reserved), Err(Refusal::Reserved));
+    }
     for field in [0x2000_u16, 1, 0x1fff] {
         let [high, low] = field.to_be_bytes();
         let piece = changed(packet.clone(), &[(6, high), (7, low)]);

@@ -4,12 +4,12 @@ use std::error::Error;
 use wispbundle::{ListRefusal, Refusal};
 
 #[test]
-fn numbers_run_from_1_to_17() {
+fn numbers_run_from_1_to_18() {
     for (i, refusal) in Refusal::ALL.into_iter().enumerate() {
         assert_eq!(usize::from(refusal.number()), i + 1);
         assert_eq!(Refusal::of_number(refusal.number()), Some(refusal));
     }
-    for other in [0, 18, 255] {
+    for other in [0, 19, 255] {
         assert_eq!(Refusal::of_number(other), None);
     }
 }

@@ -52,6 +52,25 @@ fn headers() {
     );
 }
 
+fn reserved() {
+    show(
+        b"reserved bit set, and the header checksum does not verify",
+        b"\x45\x00\x00\x14\x00\x00\x80\x00\x00\x00\x00\x00\x00\x00\x00\x00\x00\x00\x00\x00",
+    );
+    show(
+        b"reserved bit set",
+        b"\x45\x00\x00\x14\x00\x00\x80\x00\x00\x00\x3a\xeb\x00\x00\x00\x00\x00\x00\x00\x00",
+    );
+    show(
+        b"reserved bit set, and offset not 0",
+        b"\x45\x00\x00\x14\x00\x00\x80\x01\x00\x00\x3a\xea\x00\x00\x00\x00\x00\x00\x00\x00",
+    );
+    show(
+        b"DF set, and protocol is not 1, 6 or 17",
+        b"\x45\x00\x00\x14\x00\x00\x40\x00\x00\x00\x7a\xeb\x00\x00\x00\x00\x00\x00\x00\x00",
+    );
+}
+
 fn kinds() {
     show(
         b"MF set",
@@ -92,6 +111,7 @@ fn sums() {
 
 fn main() {
     headers();
+    reserved();
     kinds();
     sums();
 }

@@ -11,6 +11,7 @@ use borrow.Author.Tests.{eq-eqb}
 use Rattle.pkt.specs.Answers.{Answer, gives, mapped}
 use Rattle.pkt.specs.Rfc791.{ipHeader}
 use Rattle.pkt.specs.declared.ipv4.«ip_hdr».{«ip_hdr»}
+use Rattle.pkt.proofs.Choice.{pick-no}
 use Rattle.pkt.proofs.Headers.{ip-length}
 use Rattle.ezpkt.specs.Build.{startOf, endOf, moreFollow, pieceIp, piecePacket, packetOf}
 use Rattle.ezpkt.specs.Ip4.{fragmentOf}
@@ -32,9 +33,9 @@ use Rattle.assembly.proofs.Carrying.{accepted}
 use Rattle.assembly.specs.Packets.{takeAll, Accepted}
 use Rattle.assembly.proofs.Assembles.{assembles, assembles-here}
 use Rattle.assembly.proofs.Delivers.{piecesOf, piece-from, piece-in, taken-is, taken-usable, gathered, delivers-here}
-use Rattle.demands.specs.Ranges.{Fitting}
+use Rattle.demands.specs.Demand3.{OneHeader}
 use Rattle.demands.specs.Assembling.{ipPiece, templateKey, Asked, by-fragment, by-tail, by-datagram, BuiltFrom, AllBuilt, Reached, Cover, afterPackets, Reassembles}
-use Rattle.demands.proofs.Pieces.{flags-more, flags-offset, piece-fit}
+use Rattle.demands.proofs.Pieces.{flags-more, flags-offset, piece-evil, piece-fit}
 
 -- ---- the packet of a piece is read back as that piece
 
@@ -44,7 +45,7 @@ unfolding requested
 last-clear d off len h = let e : min (8 * off + 8 * len) (length d) ≡ length d = omega arith in ap not (eq-eqb _ _ e)
 
 -- The assembly has a payload buffer of C bytes and a map of M.
-module _ (C M : ℕ) (most : C ≤ capacity) (bits : C ≤ 64 * M) (t : Template) (d : List ℕ) (fits : Fitting t) (few : length d ≤ C) where
+module _ (C M : ℕ) (most : C ≤ capacity) (bits : C ≤ 64 * M) (t : Template) (d : List ℕ) (one : OneHeader t) (few : length d ≤ C) where
   module _ (off len : ℕ) (rest : List ℕ) (low : off ≤ 8191) where
     asked : IpPiece
     asked = ipPiece t off len
@@ -64,7 +65,7 @@ module _ (C M : ℕ) (most : C ≤ capacity) (bits : C ≤ 64 * M) (t : Template
 
     fit : Fit header
     unfolding asked header
-    fit = piece-fit asked (20 + (endOf asked (length d) - startOf asked (length d))) m fits low (omega arith)
+    fit = piece-fit asked (20 + (endOf asked (length d) - startOf asked (length d))) m (one .fits) low (omega arith)
 
     wire : List ℕ
     wire = ipHeader header ++ (body ++ rest)
@@ -74,8 +75,10 @@ module _ (C M : ℕ) (most : C ≤ capacity) (bits : C ≤ 64 * M) (t : Template
     wire-is = append-assoc (ipHeader header) body rest
 
     read-back : readAnswer wire ≡ gives (readOf header)
-    unfolding header wire
-    read-back = decoded header (body ++ rest) fit (omega arith) (omega (arith, length-append body rest, body-length))
+    unfolding asked header wire
+    read-back =
+        decoded header (body ++ rest) fit (omega arith) (omega (arith, length-append body rest, body-length))
+        ∙ pick-no _ _ (piece-evil asked (20 + (endOf asked (length d) - startOf asked (length d))) m low ∙ one .clear)
 
     -- what is read is the cut
     piece-is : pieceOf wire (readOf header) ≡ requested d off len
@@ -222,7 +225,7 @@ module _ (C M : ℕ) (most : C ≤ capacity) (bits : C ≤ 64 * M) (t : Template
       ∙ carried off len rest low (omega (arith, requested-past d off len past, room))
 
 -- ---- document 01's sizes
-module _ (t : Template) (d : List ℕ) (fits : Fitting t) (few : length d ≤ capacity) where
+module _ (t : Template) (d : List ℕ) (one : OneHeader t) (few : length d ≤ capacity) where
   abbrev Own : List (List ℕ) → Type 0
   Own ls = (l : List ℕ) (p : Piece) → Accepted capacity (templateKey t) ls l p → BuiltFrom t d l
 
@@ -230,7 +233,7 @@ module _ (t : Template) (d : List ℕ) (fits : Fitting t) (few : length d ≤ ca
   own-built ls all l p a = all l (a .handed)
 
   carries-here : (l : List ℕ) (off len : ℕ) → Asked t d l off len → pieceAnswer capacity (templateKey t) l ≡ gives (requested d off len)
-  carries-here = asked-carries capacity mapBytes (omega arith) (omega arith) t d fits few
+  carries-here = asked-carries capacity mapBytes (omega arith) (omega arith) t d one few
 
   not-none : (ls : List (List ℕ)) → AllBuilt t d ls → 0 < length ls → 0 < length (piecesOf capacity (templateKey t) ls)
   not-none [] all h = absurd (omega arith)
@@ -244,7 +247,7 @@ module _ (t : Template) (d : List ℕ) (fits : Fitting t) (few : length d ≤ ca
   some-packet (l ∷ ls) h = omega arith
 
   complete-here : (ls : List (List ℕ)) → Own ls → (complete (afterPackets t ls) ≡ true) ↔ ((0 < length (piecesOf capacity (templateKey t) ls)) × Cover t d ls)
-  complete-here = built-complete capacity mapBytes (omega arith) (omega arith) t d fits few
+  complete-here = built-complete capacity mapBytes (omega arith) (omega arith) t d one few
 
   -- Demand 3: "If all were built from one payload of at most 65,515 bytes under one header with the assembly's key, none asked for past its
   -- end, all are accepted and the state is never spoilt. It is complete exactly when at least one was handed in and together they cover the
@@ -258,12 +261,12 @@ module _ (t : Template) (d : List ℕ) (fits : Fitting t) (few : length d ≤ ca
             delivers-here (templateKey t) .answers ls l ∙ ap (λ (a : Answer Piece). mapped (step (afterPackets t ls)) a) (carries-here l off len b);
         never-spoilt =
             λ ls later all.
-            built-sound capacity mapBytes (omega arith) (omega arith) t d fits few ls (λ l p a. all l (Memᴰ·append-left later (a .handed)));
+            built-sound capacity mapBytes (omega arith) (omega arith) t d one few ls (λ l p a. all l (Memᴰ·append-left later (a .handed)));
         complete-when =
             λ ls all.
             let w = complete-here ls (own-built ls all) in
             (λ h. let x = w .0 h in (some-packet ls (x .0), x .1), λ x. w .1 (not-none ls all (x .0), x .1));
-        held = λ ls all h. built-held capacity mapBytes (omega arith) (omega arith) t d fits few ls (own-built ls all) h;
+        held = λ ls all h. built-held capacity mapBytes (omega arith) (omega arith) t d one few ls (own-built ls all) h;
         past-end-spoils =
             λ l m off len x b up ls lm mm.
             delivers-here (templateKey t) .spoilt-when ls .1
@@ -272,11 +275,11 @@ module _ (t : Template) (d : List ℕ) (fits : Fitting t) (few : length d ≤ ca
               other = m;
               p = requested d (x .off) (x .len);
               q = requested d off len;
-              one-in = record { handed = lm; carries = past-carries capacity mapBytes (omega arith) (omega arith) t d fits few l (x .off) (x .len) (x .rest) (x .past) (x .room) (x .built) };
+              one-in = record { handed = lm; carries = past-carries capacity mapBytes (omega arith) (omega arith) t d one few l (x .off) (x .len) (x .rest) (x .past) (x .room) (x .built) };
               other-in = record { handed = mm; carries = carries-here m off len b };
               clash =
                   assembles-here (templateKey t) .past-end d (x .off) (x .len) (x .past) (requested d off len)
-                  (part-at capacity mapBytes (omega arith) (omega arith) t d fits few off len (asked-within capacity mapBytes (omega arith) (omega arith) t d fits few m off len b))
+                  (part-at capacity mapBytes (omega arith) (omega arith) t d one few off len (asked-within capacity mapBytes (omega arith) (omega arith) t d one few m off len b))
                   (last-clear d off len up);
             });
       }

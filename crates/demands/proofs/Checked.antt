@@ -1,5 +1,5 @@
 -- What the check answers of the packets that are built.
-use mathlib.Core.Path.{_≡_, refl, sym, ap, _∙_}
+use mathlib.Core.Path.{_≡_, refl, sym, ap, ap₂, _∙_}
 use mathlib.Core.Bool.{Bool, true, false, not, _||_, cond}
 use Prim.Native.Nat.{ℕ, _+_, _-_, _≤_, _<_}
 use native.Mathlib.Omega.{arith}
@@ -35,13 +35,15 @@ use Rattle.inspect.proofs.Decoding.{check-encoded, Fit}
 use Rattle.inspect.proofs.Sent.{piece-refused, tcp-good, udp-good, udp-bare, echo-good}
 use Rattle.demands.specs.Ranges.{Fitting, Between, InRange}
 use Rattle.demands.specs.Checked.{udpVerdict, checkOf}
-use Rattle.demands.proofs.Pieces.{piece-fit, piece-read}
+use Rattle.demands.proofs.Pieces.{piece-evil, piece-fit, piece-read}
 
 -- an encoded header with its data part, which is answered v where it is no piece
 judged : (h : «ip_hdr») (d r : List ℕ) (v : Answer Verdict) → Fit h → h .«tot_len» ≡ 20 + length d
-    → (isPiece (readOf h) ≡ false → partAnswer (readOf h) d ≡ v) → checkAnswer ((ipHeader h ++ d) ++ r) ≡ cond (isPiece (readOf h)) (refused 13) v
+    → (isPiece (readOf h) ≡ false → partAnswer (readOf h) d ≡ v) → checkAnswer ((ipHeader h ++ d) ++ r) ≡ cond (readOf h .evil) (refused 18) (cond (isPiece (readOf h)) (refused 13) v)
 judged h d r v fit e whole =
-    ap checkAnswer (append-assoc (ipHeader h) d r) ∙ check-encoded h d r fit e ∙ go (isPiece (readOf h)) refl
+    ap checkAnswer (append-assoc (ipHeader h) d r)
+    ∙ check-encoded h d r fit e
+    ∙ ap (λ (a : Answer Verdict). cond (readOf h .evil) (refused 18) a) (go (isPiece (readOf h)) refl)
   where
     go : (t : Bool) → isPiece (readOf h) ≡ t → partAnswer (readOf h) d ≡ cond t (refused 13) v
     go true q = piece-refused (readOf h) d q
@@ -135,7 +137,8 @@ module _ (q : IpPiece) (p : List ℕ) where
       let v : Answer Verdict = partAnswer (readOf (pieceIp q (20 + length p) false)) p in
       let field = piece-read q (20 + (end - start)) m off in
       let fit = piece-fit q (20 + (end - start)) m fits off (omega arith) in
-      judged h d r v fit (omega arith) (λ whole. whole-piece (sym field ∙ whole)) ∙ ap (λ (t : Bool). cond t (refused 13) v) field
+      judged h d r v fit (omega arith) (λ whole. whole-piece (sym field ∙ whole))
+      ∙ ap₂ (λ (e t : Bool). cond e (refused 18) (cond t (refused 13) v)) (piece-evil q (20 + (end - start)) m off) field
 
 -- ---- all four
 

@@ -22,7 +22,7 @@ use Rattle.assembly.proofs.Delivers.{says-complete}
 use Rattle.assembly.proofs.Only.{steps-only}
 use Rattle.demands.specs.Assembling.{templateKey, Asked, by-fragment, by-tail, by-datagram, AllBuilt, Cover, afterPackets, Reassembles}
 use Rattle.demands.specs.Handing.{Handed, by-take}
-use Rattle.demands.specs.Ranges.{Fitting}
+use Rattle.demands.specs.Demand3.{OneHeader}
 use Rattle.demands.specs.Cutting.{CutBy, of-fragment, of-tail, of-datagram, AllCut, Finished, CallsAssemble}
 use Rattle.demands.proofs.Left.{left-by}
 use Rattle.demands.proofs.Handing.{take-one-more, handed-is, complete-told}
@@ -89,9 +89,9 @@ holds t d whole-d r payload map f =
     (sym (ap complete e) ∙ complete-told capacity mapBytes (view (f .rec) (f .payload₀) (f .map₀)) (f .last) r payload map (f .answered)))
 
 -- Demand 3 over the calls, for "one payload of at most 65,515 bytes under one header with the assembly's key".
-pub calls-assemble : (t : Template) (d : List ℕ) → Fitting t → length d ≤ capacity → CallsAssemble t d
-calls-assemble t d fits few =
-    let whole-d = reassembles t d fits few in
+pub calls-assemble : (t : Template) (d : List ℕ) → OneHeader t → length d ≤ capacity → CallsAssemble t d
+calls-assemble t d one few =
+    let whole-d = reassembles t d one few in
     record {
       assembles = whole-d;
       pieces = cut-asked t d;

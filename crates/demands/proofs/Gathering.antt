@@ -33,7 +33,7 @@ given-same q = cc q
 module _ (t : Template) (p : List ℕ) (one : OneHeader t) (few : length p ≤ capacity) (ls : List (List ℕ)) (r : Rec) (d m : List ℕ)
     (all : AllCut t p ls) (handed : Handed (templateKey t) ls r d m) where
   calls : CallsAssemble t p
-  calls = calls-assemble t p (one .fits) few
+  calls = calls-assemble t p one few
 
   s : State
   s = view r d m

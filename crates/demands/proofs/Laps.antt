@@ -66,7 +66,7 @@ module _ (f : Feed) (b s′ : List ℕ) (x : FrameFed f b s′) where
       }
 
   one : OneHeader t
-  one = record { fits = fits }
+  one = record { fits = fits; clear = refl }
 
   few : length d ≤ capacity
   few = omega (arith, payload-length f b, left .granted .few)
@@ -120,13 +120,13 @@ module _ (f : Feed) (b s′ : List ℕ) (x : FrameFed f b s′) where
   good-again k l size is o o′ n y =
       let same : l ≡ payloadIn (28 + length b) s′ = is ∙ sym datagram in
       let long : k ≡ length (payloadIn (28 + length b) s′) = size ∙ sym (ap length datagram ∙ payload-length f b) in
-      datagram-good t (Udp (frameDgram f)) good b (x .scratch) s′ (28 + length b) fits (of-udp (frameDgram f) (refl, refl, refl)) (x .bytes) built o o′ n
+      datagram-good t (Udp (frameDgram f)) good b (x .scratch) s′ (28 + length b) one (of-udp (frameDgram f) (refl, refl, refl)) (x .bytes) built o o′ n
       (subst (λ (j : ℕ). Answered (datagramOf t j) (payloadIn (28 + length b) s′) o (Packet n) o′) long
       (subst (λ (z : List ℕ). Answered (datagramOf t k) z o (Packet n) o′) same y))
 
   all : (ls : List (List ℕ)) → Reordered (framePackets f b) ls → (r : Rec) (p m : List ℕ) → Handed (templateKey t) ls r p m → Assembled f b r p m
   all ls (among, each) r p m handed =
-      let calls = calls-assemble t d fits few in
+      let calls = calls-assemble t d one few in
       let state = calls .handing ls r p m handed in
       let of-one = all-built t d ls (λ l in-list. cut l (among l in-list)) in
       let c = cover-by ls each in

@@ -17,7 +17,7 @@ use Rattle.ezpkt.specs.declared.build.Request.the-variants.{Tcp, Udp, Echo, Pie
 use Rattle.tcp4.specs.declared.TcpFlow.{TcpFlow}
 use Rattle.pieces.specs.declared.BlockRequest.{BlockRequest}
 use Rattle.inspect.specs.Answers.{whole, good}
-use Rattle.inspect.specs.Header.{fieldAt, headerOf, frameAnswer, readAnswer, dataOf}
+use Rattle.inspect.specs.Header.{fieldAt, headerOf, frameAnswer, summed, unreserved, readAnswer, dataOf}
 use Rattle.inspect.specs.Check.{isPiece, isOther, tcpCut, isCut, wholeAnswer, verifiesBehindPseudo, verdictOf, checkAnswer, examineAnswer}
 use Rattle.inspect.specs.declared.header.IpRead.{IpRead}
 use Rattle.inspect.specs.declared.check.Kind.{Kind}
@@ -121,10 +121,16 @@ module _ (ns : List ℕ) (four : isIn 4 ns ≡ true) (five : isIn 5 ns ≡ true)
       (refusing ns (not (eqb (fieldAt l 0 1) 0x45)) 5 _ five
       (refusing ns (ltb (headerOf l .end) (headerOf l .start)) 6 _ six (refusing ns (ltb (length l) (headerOf l .end)) 4 _ four (accepted _))))
 
+  -- and 18
+  clear-in : isIn 18 ns ≡ true → (a : Answer IpRead) → Among ns a → Among ns (andThen a unreserved)
+  clear-in eighteen a given = then-in ns a _ given (λ h. refusing ns (h .evil) 18 _ eighteen (accepted h))
+
   -- and 7
-  read-in : isIn 7 ns ≡ true → (l : List ℕ) → Among ns (readAnswer l)
+  read-in : isIn 7 ns ≡ true → isIn 18 ns ≡ true → (l : List ℕ) → Among ns (readAnswer l)
   unfolding readAnswer
-  read-in seven l = then-in ns (frameAnswer l) _ (frame-in l) (λ h. unless ns (verifies (take (h .start) l)) 7 _ seven (accepted h))
+  read-in seven eighteen l =
+      clear-in eighteen (andThen (frameAnswer l) (summed l))
+      (then-in ns (frameAnswer l) _ (frame-in l) (λ h. unless ns (verifies (take (h .start) l)) 7 _ seven (accepted h)))
 
 -- and where 13, 12 and 14, or 15, are
 module _ (ns : List ℕ) (thirteen : isIn 13 ns ≡ true) (twelve : isIn 12 ns ≡ true) (fourteen : isIn 14 ns ≡ true) where
@@ -141,16 +147,16 @@ module _ (ns : List ℕ) (fifteen : isIn 15 ns ≡ true) where
   verdict-in kind.Bare h d = accepted _
   verdict-in kind.Icmp h d = unless ns (verifies d) 15 _ fifteen (accepted good)
 
-pub check-in : (l : List ℕ) → Among (4 ∷ 5 ∷ 6 ∷ 7 ∷ 13 ∷ 12 ∷ 14 ∷ 15 ∷ []) (checkAnswer l)
+pub check-in : (l : List ℕ) → Among (4 ∷ 5 ∷ 6 ∷ 7 ∷ 18 ∷ 13 ∷ 12 ∷ 14 ∷ 15 ∷ []) (checkAnswer l)
 unfolding checkAnswer
 check-in l =
-    then-in _ (readAnswer l) _ (read-in _ refl refl refl refl l)
+    then-in _ (readAnswer l) _ (read-in _ refl refl refl refl refl l)
     (λ h. let d : List ℕ = dataOf h l in then-in _ (wholeAnswer h d) _ (whole-in _ refl refl refl h d) (λ k. verdict-in _ refl k h d))
 
-examine-in : (l : List ℕ) → Among (4 ∷ 5 ∷ 6 ∷ 13 ∷ 12 ∷ 14 ∷ []) (examineAnswer l)
+examine-in : (l : List ℕ) → Among (4 ∷ 5 ∷ 6 ∷ 18 ∷ 13 ∷ 12 ∷ 14 ∷ []) (examineAnswer l)
 unfolding examineAnswer
 examine-in l =
-    then-in _ (frameAnswer l) _ (frame-in _ refl refl refl l)
+    then-in _ (andThen (frameAnswer l) unreserved) _ (clear-in _ refl refl refl refl (frameAnswer l) (frame-in _ refl refl refl l))
     (λ h. let d : List ℕ = dataOf h l in mapped-in _ (whole h) (wholeAnswer h d) (whole-in _ refl refl refl h d))
 
 -- ---- assembling
@@ -166,17 +172,17 @@ piece-in : (ns : List ℕ) (C far n : ℕ) (h : IpRead) → isIn 9 ns ≡ true �
 unfolding fitAnswer
 piece-in ns C far n h nine other = refusing ns (broken (h .mf) n) 9 _ nine (refusing ns (ltb C (8 * h .off + n)) far _ other (accepted h))
 
-pub take-in : (C M : ℕ) (s : State) (l : List ℕ) → Among (11 ∷ 4 ∷ 5 ∷ 6 ∷ 7 ∷ 8 ∷ 9 ∷ 10 ∷ []) (takeAnswer C M s l)
+pub take-in : (C M : ℕ) (s : State) (l : List ℕ) → Among (11 ∷ 4 ∷ 5 ∷ 6 ∷ 7 ∷ 18 ∷ 8 ∷ 9 ∷ 10 ∷ []) (takeAnswer C M s l)
 unfolding takeAnswer pieceAnswer headAnswer keyedAnswer
 take-in C M s l =
     unless ns (usable C M s) 11 _ refl
     (mapped-in ns (step s) (pieceAnswer C (s .key) l)
     (then-in ns (headAnswer (s .key) l) _
-    (then-in ns (readAnswer l) _ (read-in ns refl refl refl refl l) (λ h. unless ns (sameKey (keyOf h) (s .key)) 8 _ refl (accepted h)))
+    (then-in ns (readAnswer l) _ (read-in ns refl refl refl refl refl l) (λ h. unless ns (sameKey (keyOf h) (s .key)) 8 _ refl (accepted h)))
     (λ h. let n : ℕ = length (dataOf h l) in mapped-in ns (pieceOf l) (fitAnswer C 10 n h) (piece-in ns C 10 n h refl refl))))
   where
     ns : List ℕ
-    ns = 11 ∷ 4 ∷ 5 ∷ 6 ∷ 7 ∷ 8 ∷ 9 ∷ 10 ∷ []
+    ns = 11 ∷ 4 ∷ 5 ∷ 6 ∷ 7 ∷ 18 ∷ 8 ∷ 9 ∷ 10 ∷ []
 
 put-in : (s : State) (h : IpRead) (b : List ℕ) → Among (11 ∷ 9 ∷ 10 ∷ []) (putAnswer s h b)
 unfolding putAnswer
@@ -205,16 +211,16 @@ placed-in ns nineteen t d m k = go (keyFrom 0 k t)
     go (At i) = accepted _
     go Absent = opens (freeFrom 0 t)
 
-tabled-in : (t : List Slot) (d m l : List ℕ) → Among (11 ∷ 4 ∷ 5 ∷ 6 ∷ 7 ∷ 9 ∷ 20 ∷ 19 ∷ []) (tableTake t d m l)
+tabled-in : (t : List Slot) (d m l : List ℕ) → Among (11 ∷ 4 ∷ 5 ∷ 6 ∷ 7 ∷ 18 ∷ 9 ∷ 20 ∷ 19 ∷ []) (tableTake t d m l)
 unfolding tableTake pieceFor
 tabled-in t d m l =
     unless ns (tableFits t (length d) (length m)) 11 _ refl
-    (then-in ns (readAnswer l) _ (read-in ns refl refl refl refl l)
+    (then-in ns (readAnswer l) _ (read-in ns refl refl refl refl refl l)
     (λ h. let n : ℕ = length (dataOf h l) in
     then-in ns (fitAnswer slotBytes 20 n h) _ (piece-in ns slotBytes 20 n h refl refl) (λ g. mapped-in ns (steppedBy (pieceOf l h)) _ (placed-in ns refl t d m (keyOf h)))))
   where
     ns : List ℕ
-    ns = 11 ∷ 4 ∷ 5 ∷ 6 ∷ 7 ∷ 9 ∷ 20 ∷ 19 ∷ []
+    ns = 11 ∷ 4 ∷ 5 ∷ 6 ∷ 7 ∷ 18 ∷ 9 ∷ 20 ∷ 19 ∷ []
 
 -- the slot with the key, or 27
 found-in : (ns : List ℕ) → isIn 27 ns ≡ true → (f : Found) → Among ns (heldFor f)
@@ -280,7 +286,7 @@ numbered =
       taking-out = λ t d m k o r d′ m′ o′ x. told _ _ _ (x .answer) (mapped-in _ (λ y. length (y .datagram)) _ (out-in t d m k (length o)));
       discarding = λ t d m k r d′ m′ x. told _ _ _ (x .answer) (mapped-in _ (λ i. 0) _ (discard-in t (length d) (length m) k));
       framing = λ l r e. told _ _ _ e (frame-in _ refl refl refl l);
-      reading = λ l r e. told _ _ _ e (read-in _ refl refl refl refl l);
+      reading = λ l r e. told _ _ _ e (read-in _ refl refl refl refl refl l);
       examining = λ l r e. told _ _ _ e (examine-in l);
       tcp-reading = λ d r e. told _ _ _ e (refusing _ (tcpCut d) 14 _ refl (accepted _));
       checking = λ l r e. told _ _ _ e (check-in l);

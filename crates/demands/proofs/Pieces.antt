@@ -44,6 +44,16 @@ flags-more q m h =
 pub flags-offset : (q : IpPiece) (m : Bool) → q .off ≤ 8191 → pieceFlags q m % 0x2000 ≡ q .off
 flags-offset q m h = omega (arith, flags-is q m, ones-most (q .template .evil), ones-most (q .template .df), ones-most m)
 
+-- the reserved bit
+flags-evil : (q : IpPiece) (m : Bool) → q .off ≤ 8191 → hasBit 0x8000 (pieceFlags q m) ≡ q .template .evil
+flags-evil q m h =
+    test-is (q .template .evil) (pieceFlags q m / 0x8000 % 2)
+    (omega (arith, flags-is q m, ones-most (q .template .evil), ones-most (q .template .df), ones-most m))
+
+pub piece-evil : (q : IpPiece) (size : ℕ) (m : Bool) → q .off ≤ 8191 → readOf (pieceIp q size m) .evil ≡ q .template .evil
+unfolding readOf
+piece-evil q size m h = flags-evil q m h
+
 pub piece-fit : (q : IpPiece) (size : ℕ) (m : Bool) → Fitting (q .template) → q .off ≤ 8191 → size < 65536 → Fit (pieceIp q size m)
 piece-fit q size m fits off few =
     record {

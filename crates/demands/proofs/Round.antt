@@ -32,7 +32,7 @@ use Rattle.inspect.proofs.Sent.{tcp-good, udp-good, udp-bare, echo-good}
 use Rattle.assembly.specs.Assembly.{isComplete}
 use Rattle.assembly.specs.Answers.{Standing, standing}
 use Rattle.assembly.specs.Calls.{capacity}
-use Rattle.demands.specs.Ranges.{Fitting}
+use Rattle.demands.specs.Demand3.{OneHeader}
 use Rattle.demands.specs.Checked.{udpVerdict}
 use Rattle.demands.specs.Assembling.{ipPiece}
 use Rattle.demands.specs.Round.{payloadIn, Names, Owed, of-tcp, of-udp, of-echo, RoundTrip}
@@ -86,18 +86,19 @@ module _ (t : Template) (len size : ℕ) where
   part-good q v p room n (of-echo x names) bp e = echo-part x p names bp
 
 -- What `datagram` builds of d is checked as d behind that header.
-datagram-checked : (t : Template) (d o b : List ℕ) (n : ℕ) → Fitting t → length d ≤ 65515 → Answered (datagramOf t (length d)) d o (Packet n) b
+datagram-checked : (t : Template) (d o b : List ℕ) (n : ℕ) → OneHeader t → length d ≤ 65515 → Answered (datagramOf t (length d)) d o (Packet n) b
     → checkAnswer b ≡ partAnswer (whole t (length d) (20 + length d)) d
 unfolding whole
-datagram-checked t d o b n fits few x =
+datagram-checked t d o b n one few x =
     let q : IpPiece = asked t (length d) in
     let all : min (8 * 0 + 8 * length d) (length d) ≡ length d = omega arith in
     ap checkAnswer (left-by (datagramOf t (length d)) d o b n x)
-    ∙ piece-checked q d _ fits (omega arith) few
+    ∙ piece-checked q d _ (one .fits) (omega arith) few
+    ∙ pick-no _ _ (one .clear)
     ∙ pick-no _ _ (ap (λ (e : Bool). not e || not (eqb 0 0)) (eq-eqb _ _ all))
 
 -- The IPv4 payload of a packet that was built: it is short enough to be cut, and what `datagram` builds of it is checked as it deserves.
-module _ (t : Template) (q : Request) (v : Verdict) (p o b : List ℕ) (n : ℕ) (fits : Fitting t) (c : Owed t q v) (bp : Bytes p) (x : Answered q p o (Packet n) b) where
+module _ (t : Template) (q : Request) (v : Verdict) (p o b : List ℕ) (n : ℕ) (one : OneHeader t) (c : Owed t q v) (bp : Bytes p) (x : Answered q p o (Packet n) b) where
   payload-is : payloadIn n b ≡ drop 20 (packetOf q p)
   payload-is = ap (drop 20) (built-packet q p o b (Packet n) n x refl .1)
 
@@ -110,7 +111,7 @@ module _ (t : Template) (q : Request) (v : Verdict) (p o b : List ℕ) (n : ℕ)
   pub datagram-good : (o₂ b₂ : List ℕ) (n₂ : ℕ) → Answered (datagramOf t (length (payloadIn n b))) (payloadIn n b) o₂ (Packet n₂) b₂ → checkAnswer b₂ ≡ gives v
   datagram-good o₂ b₂ n₂ y =
       let d : List ℕ = payloadIn n b in
-      datagram-checked t d o₂ b₂ n₂ fits payload-few y
+      datagram-checked t d o₂ b₂ n₂ one payload-few y
       ∙ ap (partAnswer (whole t (length d) (20 + length d))) payload-is
       ∙ part-good t (length d) (20 + length d) q v p (length o) n c bp (sym (x .answer))
 
@@ -119,7 +120,7 @@ module _ (t : Template) (q : Request) (v : Verdict) (p o b : List ℕ) (n : ℕ)
   pub round-trip : RoundTrip t v (payloadIn n b)
   round-trip =
       let d : List ℕ = payloadIn n b in
-      let calls = calls-assemble t d fits payload-few in
+      let calls = calls-assemble t d one payload-few in
       record {
         calls = calls;
         checked =

@@ -62,7 +62,7 @@ module _ (t : Template) (p : List ℕ) (one : OneHeader t) (few : length p ≤ s
   whole-when : (complete alone ≡ true) ↔ ((0 < length (piecesOf (templateKey t) ls)) × Cover t p ls)
   unfolding alone
   whole-when =
-      let w = built-complete slotBytes slotMap (omega arith) (omega arith) t p (one .fits) few ls built in
+      let w = built-complete slotBytes slotMap (omega arith) (omega arith) t p one few ls built in
       let e = ap length (own-pieces (templateKey t) ls) in
       (λ c. let x = w .0 c in (omega (arith, x .0, e), x .1), λ x. w .1 (omega (arith, x .0, e), x .1))
 
@@ -76,7 +76,7 @@ module _ (t : Template) (p : List ℕ) (one : OneHeader t) (few : length p ≤ s
   one-more l off len c more a d′ m′ call = go (went s d m l (h .sound) a d′ m′ call)
     where
       carried : (x : Keyed) × (keyedIn l ≡ gives x) × (x .key ≡ templateKey t) × (x .piece ≡ requested p off len)
-      carried = piece-keyed (templateKey t) l _ (asked-carries slotBytes slotMap (omega arith) (omega arith) t p (one .fits) few l off len (cut-asked t p l off len c))
+      carried = piece-keyed (templateKey t) l _ (asked-carries slotBytes slotMap (omega arith) (omega arith) t p one few l off len (cut-asked t p l off len c))
 
       go : Went s d m l (steppedSays (a .answer)) (a .table) d′ m′ → (x : Outcome) × (steppedSays (a .answer) ≡ gives x)
       go (kept n e o x y z) = let q = carried .1 in let w : _≡_ {A = ℕ} 0 1 = cc in absurd (omega arith)
@@ -120,7 +120,7 @@ module _ (t : Template) (p : List ℕ) (one : OneHeader t) (few : length p ≤ s
     answered : 0 < length (piecesOf (templateKey t) ls) → complete alone ≡ true → length p ≤ length o → outSays (a .answer) ≡ gives (length p)
     unfolding alone
     answered some-piece c room =
-        let whole : heldBytes alone ≡ p = built-whole slotBytes slotMap (omega arith) (omega arith) t p (one .fits) few ls built c in
+        let whole : heldBytes alone ≡ p = built-whole slotBytes slotMap (omega arith) (omega arith) t p one few ls built c in
         told .answer
         ∙ ap (λ (w : Option State). mapped length (outBy (length o) w)) (h .led (templateKey t) ∙ led (piecesOf (templateKey t) ls) some-piece ∙ ap some (sym alone-is))
         ∙ ap (mapped length) (pick-yes _ _ c)
@@ -148,7 +148,7 @@ module _ (t : Template) (p : List ℕ) (one : OneHeader t) (few : length p ≤ s
       record {
         accepted = one-more;
         never-spoilt =
-            λ u e. ap (λ (v : State). v .spoilt) (led-to u e) ∙ built-sound slotBytes slotMap (omega arith) (omega arith) t p (one .fits) few ls built;
+            λ u e. ap (λ (v : State). v .spoilt) (led-to u e) ∙ built-sound slotBytes slotMap (omega arith) (omega arith) t p one few ls built;
         complete-when =
             λ o a d′ m′ o′ room call. (
               λ (n, e). let x = whole-when .0 (given o a d′ m′ o′ call n e .done) in (there-piece (x .0), x .1),
@@ -157,7 +157,7 @@ module _ (t : Template) (p : List ℕ) (one : OneHeader t) (few : length p ≤ s
         holds =
             λ o a d′ m′ o′ n call e.
             let g = given o a d′ m′ o′ call n e in
-            let whole = built-whole slotBytes slotMap (omega arith) (omega arith) t p (one .fits) few ls built (g .done) in
+            let whole = built-whole slotBytes slotMap (omega arith) (omega arith) t p one few ls built (g .done) in
             (g .size ∙ ap length whole, g .output-is ∙ ap (λ (b : List ℕ). written b o) whole);
       }
 

@@ -21,9 +21,11 @@ use Rattle.demands.specs.Handing.{Handed}
 use Rattle.demands.specs.Assembling.{templateKey, Cover}
 use Rattle.demands.specs.Cutting.{CutBy, AllCut}
 
--- "one header": the template's numbers fit their types, as every value of the source does
+-- "one header": the template's numbers fit their types, as every value of the source does. Document 02, T-06: "Demand 3's second half needs a
+-- template with that bit clear", the reserved one.
 pub record OneHeader (t : Template) : Type 0 where
   pub fits : Fitting t
+  pub clear : t .evil ≡ false
 
 -- Pieces of the payload p under t, the packets ls, were handed in, and r, d and m are the record and the buffers after them.
 pub record FromOne (t : Template) (p : List ℕ) (ls : List (List ℕ)) (r : Rec) (d m : List ℕ) : Type 0 where

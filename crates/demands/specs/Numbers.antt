@@ -99,33 +99,33 @@ pub record Numbered : Type 0 where
       → AmongList (1 ∷ 3 ∷ []) (2 ∷ []) (length rs) (piecesSays r)
   -- "opening gives only 11"
   pub opening : (C M : ℕ) (k : Key) (d m : List ℕ) (r : Opened) (d′ m′ : List ℕ) → Opens C M k d m r d′ m′ → Among (11 ∷ []) (openedSays r)
-  -- "Assembly 11, 4 (under 20), 5, 6, 4 (total), 7, 8, 9, 10"
+  -- "Assembly 11, 4 (under 20), 5, 6, 4 (total), 7, 8, 9, 10", and document 02's 18, "directly after 7 in both orders"
   pub taking : (C M : ℕ) (s : State) (l : List ℕ) (r : Taken) (d m : List ℕ) → Takes C M s l r d m
-      → Among (11 ∷ 4 ∷ 5 ∷ 6 ∷ 7 ∷ 8 ∷ 9 ∷ 10 ∷ []) (takenSays r)
+      → Among (11 ∷ 4 ∷ 5 ∷ 6 ∷ 7 ∷ 18 ∷ 8 ∷ 9 ∷ 10 ∷ []) (takenSays r)
   -- of these 9, and 10 or the number `far`, by `carried::fit`,
   pub placing : (C far n : ℕ) (h : IpRead) (r : Seen) → readSays r ≡ fitAnswer C far n h → Among (9 ∷ far ∷ []) (readSays r)
   -- 11, 9 and 10 by `any::put`,
   pub putting : (s : State) (h : IpRead) (b : List ℕ) (r : Taken) (d m : List ℕ) → Puts s h b r d m → Among (11 ∷ 9 ∷ 10 ∷ []) (takenSays r)
   -- and 11 by `progress` and `any::progress`
   pub progressing : (ok : Bool) (s : State) (r : Progress) → progressSays r ≡ standsAnswer ok s → Among (11 ∷ []) (progressSays r)
-  -- Document 02, T-03: a table's `take` gives 11, 4, 5, 6, 7, 9, 20 and 19: "8 does not arise here", nor does 10;
+  -- Document 02, T-03: a table's `take` gives 11, 4, 5, 6, 7, 18, 9, 20 and 19: "8 does not arise here", nor does 10;
   pub tabling : (t : List Slot) (d m l : List ℕ) (r : Placed) (d′ m′ : List ℕ) → Tables (tableTake t d m l) t d m r d′ m′
-      → Among (11 ∷ 4 ∷ 5 ∷ 6 ∷ 7 ∷ 9 ∷ 20 ∷ 19 ∷ []) (steppedSays (r .answer))
+      → Among (11 ∷ 4 ∷ 5 ∷ 6 ∷ 7 ∷ 18 ∷ 9 ∷ 20 ∷ 19 ∷ []) (steppedSays (r .answer))
   -- "for taking, 11, 27 .., 3; for discarding, 11, 27": `take_out`, `discard`
   pub taking-out : (t : List Slot) (d m : List ℕ) (k : Key) (o : List ℕ) (r : TakenOut) (d′ m′ o′ : List ℕ) → TakesOut t d m k o r d′ m′ o′
       → Among (11 ∷ 27 ∷ 3 ∷ []) (outSays (r .answer))
   pub discarding : (t : List Slot) (d m : List ℕ) (k : Key) (r : Discarded) (d′ m′ : List ℕ) → Discards t d m k r d′ m′
       → Among (11 ∷ 27 ∷ []) (goneSays (r .answer))
-  -- "Packet check 4, 5, 6, 4, 7, 13, 12, 14, 15", and its parts: `frame`,
+  -- "Packet check 4, 5, 6, 4, 7, 13, 12, 14, 15", with 18 after 7, and its parts: `frame`,
   pub framing : (l : List ℕ) (r : Seen) → readSays r ≡ frameAnswer l → Among (4 ∷ 5 ∷ 6 ∷ []) (readSays r)
   -- `header::read`,
-  pub reading : (l : List ℕ) (r : Seen) → readSays r ≡ readAnswer l → Among (4 ∷ 5 ∷ 6 ∷ 7 ∷ []) (readSays r)
+  pub reading : (l : List ℕ) (r : Seen) → readSays r ≡ readAnswer l → Among (4 ∷ 5 ∷ 6 ∷ 7 ∷ 18 ∷ []) (readSays r)
   -- `examine`,
-  pub examining : (l : List ℕ) (r : Examined) → examinedSays r ≡ examineAnswer l → Among (4 ∷ 5 ∷ 6 ∷ 13 ∷ 12 ∷ 14 ∷ []) (examinedSays r)
+  pub examining : (l : List ℕ) (r : Examined) → examinedSays r ≡ examineAnswer l → Among (4 ∷ 5 ∷ 6 ∷ 18 ∷ 13 ∷ 12 ∷ 14 ∷ []) (examinedSays r)
   -- `tcp::read`,
   pub tcp-reading : (d : List ℕ) (r : TcpSeen) → tcpSays r ≡ tcpReadAnswer d → Among (14 ∷ []) (tcpSays r)
   -- and `check`.
-  pub checking : (l : List ℕ) (r : Checked) → checkedSays r ≡ checkAnswer l → Among (4 ∷ 5 ∷ 6 ∷ 7 ∷ 13 ∷ 12 ∷ 14 ∷ 15 ∷ []) (checkedSays r)
+  pub checking : (l : List ℕ) (r : Checked) → checkedSays r ≡ checkAnswer l → Among (4 ∷ 5 ∷ 6 ∷ 7 ∷ 18 ∷ 13 ∷ 12 ∷ 14 ∷ 15 ∷ []) (checkedSays r)
   -- "Capture 1, 17, 3": `record_answer`, `write_record`
   pub recording : (n usec room : ℕ) (r : Captured) → capturedSays r ≡ recordAnswer n usec room → Among (1 ∷ 17 ∷ 3 ∷ []) (capturedSays r)
   pub capturing : (sec usec : ℕ) (d o : List ℕ) (r : Captured) (o′ : List ℕ) → RecordWritten sec usec d o r o′ → Among (1 ∷ 17 ∷ 3 ∷ []) (capturedSays r)

@@ -204,6 +204,7 @@ fn headers() {
     changed(b"total length 19:", 3, 19);
     changed(b"another TTL under the same checksum:", 8, 63);
     changed(b"the same TTL:", 8, 64);
+    changed(b"the reserved bit set under the same checksum:", 6, 0xa0);
 }
 
 // Hands a datagram with these flags and this offset to an empty table.
@@ -215,6 +216,10 @@ fn placed(frag_off: u16, words: &[u8]) {
 }
 
 fn ends() {
+    say(b"the reserved bit set:");
+    placed(0x8000, b"");
+    say(b"9 bytes with the reserved bit and MF set:");
+    placed(0xa000, b"!");
     say(b"9 bytes with MF set:");
     placed(0x2000, b"!");
     say(b"9 bytes at block 1,023 with MF set:");

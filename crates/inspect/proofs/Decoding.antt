@@ -1,6 +1,6 @@
 -- Decoding an encoded header gives its fields back.
 use mathlib.Core.Path.{_≡_, refl, sym, ap, _∙_}
-use mathlib.Core.Bool.{Bool, true, cond}
+use mathlib.Core.Bool.{Bool, true, false, cond}
 use Prim.Native.Nat.{ℕ, zero, suc, _+_, _-_, _*_, _/_, _%_, _≤_, _<_}
 use native.Mathlib.Omega.{arith}
 use mathlib.Core.List.{List, _++_}
@@ -15,7 +15,7 @@ use Rattle.pkt.specs.Rfc791.{ipFields, ipBytes, ipHeader}
 use Rattle.pkt.specs.declared.ipv4.«ip_hdr».{«ip_hdr»}
 use Rattle.pkt.proofs.Fields.{field-at}
 use Rattle.pkt.proofs.Headers.{ip-length, ip-verifies}
-use Rattle.inspect.specs.Header.{fieldAt, hasBit, headerOf, frameAnswer, summed, readAnswer, dataOf}
+use Rattle.inspect.specs.Header.{fieldAt, hasBit, headerOf, frameAnswer, summed, unreserved, readAnswer, dataOf}
 use Rattle.inspect.specs.Encoded.{readOf}
 use Rattle.inspect.specs.Check.{partAnswer, checkAnswer}
 use Rattle.inspect.specs.declared.header.IpRead.{IpRead}
@@ -95,8 +95,8 @@ module _ (h : «ip_hdr») (rest : List ℕ) where
       let daddr : fieldAt wire 16 4 ≡ h .daddr = field-at (take 9 all) (field 4 (h .daddr)) (drop 10 all) rest ∙ omega arith in
       simp (tos, total, id, frag, ttl, protocol, saddr, daddr)
 
-  -- An encoded header is read back, whatever stands behind it, where as many bytes are there as it says.
-  pub decoded : Fit h → 20 ≤ h .«tot_len» → h .«tot_len» ≤ 20 + length rest → readAnswer (ipHeader h ++ rest) ≡ gives (readOf h)
+  -- An encoded header is read back, whatever stands behind it, where as many bytes are there as it says, unless its reserved bit is set.
+  pub decoded : Fit h → 20 ≤ h .«tot_len» → h .«tot_len» ≤ 20 + length rest → readAnswer (ipHeader h ++ rest) ≡ unreserved (readOf h)
   unfolding frameAnswer readAnswer wire
   decoded fit long there =
       let size : length wire ≡ 20 + length rest = length-append (ipHeader h) rest ∙ ap (λ (n : ℕ). n + length rest) (ip-length h) in
@@ -108,10 +108,12 @@ module _ (h : «ip_hdr») (rest : List ℕ) where
       let e : frameAnswer wire ≡ gives (readOf h) = simp (a, b, same, d, f) in
       let front : take (readOf h .start) wire ≡ ipHeader h = take-at (ipHeader h) rest (readOf h .start) (ip-length h ∙ sym (start-of h)) in
       let v : verifies (take (readOf h .start) wire) ≡ true = ap verifies front ∙ eq-eqb _ 65535 (ip-verifies h) in
-      ap (λ (x : Answer IpRead). andThen x (summed wire)) e ∙ ap (λ (t : Bool). cond t (gives (readOf h)) (refused 7)) v
+      ap (λ (x : Answer IpRead). andThen (andThen x (summed wire)) unreserved) e
+      ∙ ap (λ (t : Bool). andThen (cond t (gives (readOf h)) (refused 7)) unreserved) v
 
--- The check of an encoded header and its data part is that of the two, whatever stands behind them.
-pub check-encoded : (h : «ip_hdr») (d r : List ℕ) → Fit h → h .«tot_len» ≡ 20 + length d → checkAnswer (ipHeader h ++ (d ++ r)) ≡ partAnswer (readOf h) d
+-- The check of an encoded header and its data part is that of the two, whatever stands behind them; 18 where the reserved bit is set.
+pub check-encoded : (h : «ip_hdr») (d r : List ℕ) → Fit h → h .«tot_len» ≡ 20 + length d
+    → checkAnswer (ipHeader h ++ (d ++ r)) ≡ cond (readOf h .evil) (refused 18) (partAnswer (readOf h) d)
 unfolding checkAnswer
 check-encoded h d r fit e =
     let l : List ℕ = ipHeader h ++ (d ++ r) in
@@ -119,4 +121,9 @@ check-encoded h d r fit e =
     let n : readOf h .end - readOf h .start ≡ length d = omega (arith, end-of h, start-of h) in
     let behind : drop (readOf h .start) l ≡ d ++ r = drop-at (ipHeader h) (d ++ r) (readOf h .start) (ip-length h ∙ sym (start-of h)) in
     let part : dataOf (readOf h) l ≡ d = ap (take (readOf h .end - readOf h .start)) behind ∙ take-at d r (readOf h .end - readOf h .start) (sym n) in
-    ap (λ (x : Answer IpRead). andThen x (λ g. partAnswer g (dataOf g l))) read ∙ ap (partAnswer (readOf h)) part
+    ap (λ (x : Answer IpRead). andThen x (λ g. partAnswer g (dataOf g l))) read ∙ go (readOf h .evil) part
+  where
+    go : (b : Bool) → dataOf (readOf h) (ipHeader h ++ (d ++ r)) ≡ d
+        → andThen (cond b (refused 18) (gives (readOf h))) (λ g. partAnswer g (dataOf g (ipHeader h ++ (d ++ r)))) ≡ cond b (refused 18) (partAnswer (readOf h) d)
+    go true part = refl
+    go false part = ap (partAnswer (readOf h)) part

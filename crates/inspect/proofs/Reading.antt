@@ -1,6 +1,6 @@
 -- Laws of the header reader's answer.
 use mathlib.Core.Path.{_≡_, refl, sym, ap, _∙_}
-use mathlib.Core.Bool.{Bool, true, not, cond}
+use mathlib.Core.Bool.{Bool, true, false, not, cond}
 use Prim.Native.Nat.{ℕ, _+_, _-_, _≤_}
 use native.Mathlib.Omega.{arith}
 use mathlib.Core.List.{List, _++_}
@@ -8,7 +8,7 @@ use lib.ListN.{length, take, length-append, length-take}
 use lib.Dec.{ltb, eqb}
 use borrow.Author.Tests.{le-ltb, ltb-false, not-false, eqb-true}
 use Rattle.pkt.specs.Answers.{Answer, refused, gives, andThen}
-use Rattle.inspect.specs.Header.{fieldAt, headerOf, lengthField, frameAnswer, summed, readAnswer}
+use Rattle.inspect.specs.Header.{fieldAt, headerOf, lengthField, frameAnswer, summed, unreserved, readAnswer}
 use Rattle.inspect.specs.declared.header.IpRead.{IpRead}
 use Rattle.pkt.specs.Fields.{Bytes}
 use Rattle.pkt.proofs.Deciding.{past, held}
@@ -43,10 +43,21 @@ framed l h e =
       offset = rw (← q) (omega arith);
     }
 
+-- What is seen with its reserved bit clear was seen before that was asked.
+pub was-seen : (a : Answer IpRead) (h : IpRead) → andThen a unreserved ≡ gives h → (a ≡ gives h) × (h .evil ≡ false)
+was-seen (refused n) h q = let z : _≡_ {A = ℕ} 0 1 = cc in absurd (omega arith)
+was-seen (gives g) h q =
+    let w = past (g .evil) 18 (gives g) h q in
+    let same : g ≡ h = cc (w .1) in
+    (w .1, ap (λ (x : IpRead). x .evil) (sym same) ∙ w .0)
+
+pub clear-seen : {a b : Answer IpRead} (l : List ℕ) → a ≡ frameAnswer l → b ≡ andThen a unreserved → andThen (frameAnswer l) unreserved ≡ b
+clear-seen l x y = sym (y ∙ ap (λ (c : Answer IpRead). andThen c unreserved) x)
+
 -- A header that was read is framed, and verifies.
 pub was-read : (l : List ℕ) (h : IpRead) → readAnswer l ≡ gives h → (frameAnswer l ≡ gives h) × (verifies (take (h .start) l) ≡ true)
 unfolding readAnswer
-was-read l h e = go (frameAnswer l) e
+was-read l h e = go (frameAnswer l) (was-seen (andThen (frameAnswer l) (summed l)) h e .0)
   where
     go : (a : Answer IpRead) → andThen a (summed l) ≡ gives h → (a ≡ gives h) × (verifies (take (h .start) l) ≡ true)
     go (refused n) q = let z : _≡_ {A = ℕ} 0 1 = cc in absurd (omega arith)
@@ -65,10 +76,9 @@ frame-end l h b e = rw (framed l h e .is) (omega (arith, field-below 2 2 l b))
 pub read-end : (l : List ℕ) (h : IpRead) → Bytes l → readAnswer l ≡ gives h → h .end ≤ 65535
 read-end l h b e = frame-end l h b (was-read l h e .0)
 
--- a step of reading: what is framed is read exactly if its header verifies
+-- a step of reading: what is framed is seen exactly if its header verifies
 pub read-step : (l : List ℕ) (h : IpRead) (t : Bool) → frameAnswer l ≡ gives h → t ≡ verifies (take (h .start - 0) l)
-    → cond t (gives h) (refused 7) ≡ readAnswer l
-unfolding readAnswer
+    → cond t (gives h) (refused 7) ≡ andThen (frameAnswer l) (summed l)
 read-step l h t e v =
     let z : h .start - 0 ≡ h .start = omega arith in
     sym (ap (λ (a : Answer IpRead). andThen a (summed l)) e ∙ ap (λ (s : Bool). cond s (gives h) (refused 7)) (ap (λ (k : ℕ). verifies (take k l)) (sym z) ∙ sym v))
@@ -110,7 +120,9 @@ module _ (l r : List ℕ) (long : 20 ≤ lengthField l) (there : lengthField l �
   -- The reader's answer is that of the first bytes, as many as the total length says, whatever is behind them.
   pub read-front : readAnswer (take (lengthField l) l ++ r) ≡ readAnswer l
   unfolding readAnswer
-  read-front = ap (λ (a : Answer IpRead). andThen a (summed (take (lengthField l) l ++ r))) frame-front ∙ go (frameAnswer l) refl
+  read-front =
+      ap (λ (a : Answer IpRead). andThen (andThen a (summed (take (lengthField l) l ++ r))) unreserved) frame-front
+      ∙ ap (λ (a : Answer IpRead). andThen a unreserved) (go (frameAnswer l) refl)
     where
       go : (a : Answer IpRead) → frameAnswer l ≡ a → andThen a (summed (take (lengthField l) l ++ r)) ≡ andThen a (summed l)
       go (refused n) e = refl

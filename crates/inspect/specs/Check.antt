@@ -7,7 +7,7 @@ use lib.Dec.{ltb, eqb}
 use Rattle.pkt.specs.Answers.{Answer, refused, gives, mapped, andThen}
 use Rattle.pkt.specs.Rfc768.{pseudo, udpSumAt}
 use Rattle.inspect.specs.Answers.{Whole, whole, Verdict, good, noChecksum}
-use Rattle.inspect.specs.Header.{fieldAt, frameAnswer, readAnswer, dataOf}
+use Rattle.inspect.specs.Header.{fieldAt, frameAnswer, unreserved, readAnswer, dataOf}
 use Rattle.inspect.specs.declared.header.IpRead.{IpRead}
 use Rattle.inspect.specs.declared.check.Kind.{Kind}
 use Rattle.inspect.specs.declared.check.Kind.the-variants.{Tcp, Udp, Bare, Icmp}
@@ -64,10 +64,10 @@ verdictOf Icmp h d = unlessBad (verifies d)
 abbrev pub partAnswer : IpRead → List ℕ → Answer Verdict
 partAnswer h d = andThen (wholeAnswer h d) (λ k. verdictOf k h d)
 
--- the check's answer: 4, 5, 6, 4, 7, 13, 12, 14, 15
+-- the check's answer: 4, 5, 6, 4, 7, 18, 13, 12, 14, 15
 unfoldable pub checkAnswer : List ℕ → Answer Verdict
 checkAnswer l = andThen (readAnswer l) (λ h. partAnswer h (dataOf h l))
 
--- the answer of the check up to its sums, the header and the kind of what it would call good if 7 and 15 were never given: 4, 5, 6, 4, 13, 12, 14
+-- the answer of the check up to its sums, the header and the kind of what it would call good if 7 and 15 were never given: 4, 5, 6, 4, 18, 13, 12, 14
 unfoldable pub examineAnswer : List ℕ → Answer Whole
-examineAnswer l = andThen (frameAnswer l) (λ h. mapped (whole h) (wholeAnswer h (dataOf h l)))
+examineAnswer l = andThen (andThen (frameAnswer l) unreserved) (λ h. mapped (whole h) (wholeAnswer h (dataOf h l)))

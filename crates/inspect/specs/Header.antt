@@ -1,4 +1,4 @@
--- Which bytes are an IPv4 packet, and what its header says: RFC 791, 3.1, and document 01's numbers 4 to 7.
+-- Which bytes are an IPv4 packet, and what its header says: RFC 791, 3.1, document 01's numbers 4 to 7, and document 02's 18.
 use Prim.Native.Nat.{ℕ, _-_, _/_, _%_}
 use mathlib.Core.Bool.{Bool, false, not, cond}
 use mathlib.Core.List.{List}
@@ -60,9 +60,13 @@ isZero (csum.Refused n) = false
 abbrev pub summed : List ℕ → IpRead → Answer IpRead
 summed l h = cond (verifies (take (h .start) l)) (gives h) (refused 7)
 
--- the reader's answer: 4, 5, 6, 4, then 7, or the header's fields
+-- Document 02, T-06: "A switch under test set the 0x8000 bit .. RFC 791 says it is zero. Assembly and packet check now refuse it": 18
+abbrev pub unreserved : IpRead → Answer IpRead
+unreserved h = cond (h .evil) (refused 18) (gives h)
+
+-- the reader's answer: 4, 5, 6, 4, then 7, "18, directly after 7", or the header's fields
 unfoldable pub readAnswer : List ℕ → Answer IpRead
-readAnswer l = andThen (frameAnswer l) (summed l)
+readAnswer l = andThen (andThen (frameAnswer l) (summed l)) unreserved
 
 -- the data part of a packet l with the header h
 abbrev pub dataOf : IpRead → List ℕ → List ℕ

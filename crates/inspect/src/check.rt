@@ -195,7 +195,7 @@ fn with_header(h: IpRead, found: Found) -> Examined
 pub fn examine(packet: &[u8]) -> Examined
     ensures { λ r. ⌜ examinedSays r ≡ examineAnswer (now (packet .entry)) ⌝ }
 {
-    match header::frame(packet) {
+    match header::unreserved(header::frame(packet)) {
         Seen::Refused(number) => Examined::Refused(number),
         Seen::Packet(h) => {
             let start = h.start;

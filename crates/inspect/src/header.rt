@@ -7,7 +7,8 @@ ghost use mathlib.Core.Path.{_≡_};
 ghost use Prim.Native.Nat.{_+_, _≤_};
 ghost use lib.ListN.{length};
 ghost use Rattle.inspect.specs.Answers.{readSays};
-ghost use Rattle.inspect.specs.Header.{fieldAt, headerOf, frameAnswer, isZero, readAnswer};
+ghost use Rattle.pkt.specs.Answers.{andThen};
+ghost use Rattle.inspect.specs.Header.{fieldAt, headerOf, frameAnswer, isZero, summed, unreserved, readAnswer};
 ghost use Rattle.pkt.specs.Rfc1071.{verifies};
 
 // What a packet's header says. Its data is the bytes from start up to, not including, end.
@@ -120,10 +121,25 @@ pub(crate) fn verify(s: &[u8]) -> bool
     is_zero(ipv4::ip_csum(s))
 }
 
-// The header of a packet that is all there and whose header verifies. Bytes after its total length do
-// not count.
-pub fn read(packet: &[u8]) -> Seen
-    ensures { λ r. ⌜ readSays r ≡ readAnswer (now (packet .entry)) ⌝ }
+// A header as it was seen, unless its reserved bit is set.
+pub(crate) fn unreserved(seen: Seen) -> Seen
+    ensures { λ r. ⌜ readSays r ≡ andThen (readSays seen) unreserved ⌝ }
+{
+    match seen {
+        Seen::Refused(number) => Seen::Refused(number),
+        Seen::Packet(h) => {
+            if h.evil {
+                Seen::Refused(refusal::RESERVED)
+            } else {
+                Seen::Packet(h)
+            }
+        }
+    }
+}
+
+// The header of a packet that is all there and whose header verifies.
+fn verified(packet: &[u8]) -> Seen
+    ensures { λ r. ⌜ readSays r ≡ andThen (frameAnswer (now (packet .entry))) (summed (now (packet .entry))) ⌝ }
 {
     match frame(packet) {
         Seen::Refused(number) => Seen::Refused(number),
@@ -136,4 +152,12 @@ pub fn read(packet: &[u8]) -> Seen
             }
         }
     }
+}
+
+// The header of a packet that is all there, whose header verifies and has the reserved bit clear. Bytes after its total
+// length do not count.
+pub fn read(packet: &[u8]) -> Seen
+    ensures { λ r. ⌜ readSays r ≡ readAnswer (now (packet .entry)) ⌝ }
+{
+    unreserved(verified(packet))
 }

@@ -34,6 +34,8 @@ pub const BAD_SUM: u8 = 15;
 pub const BAD_PART: u8 = 16;
 // Microseconds above 999,999.
 pub const BAD_TIME: u8 = 17;
+// The header's reserved bit is set.
+pub const RESERVED: u8 = 18;
 // A table of assemblies has no slot with the key and none that is free.
 pub const FULL: u8 = 19;
 // A piece ends above what a slot of a table has room for.

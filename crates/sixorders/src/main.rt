@@ -253,8 +253,22 @@ fn pieces() {
     sent(CLIENT, 8187);
     say(b"21 bytes at block 8,186:");
     sent(CLIENT, 8186);
-    say(b"21 bytes with DF and the reserved bit set:");
-    sent(CLIENT, 0xc000);
+    say(b"21 bytes with DF set:");
+    sent(CLIENT, 0x4000);
+}
+
+// The reserved bit: 18, behind 7 and before 8 and 9.
+fn reserved() {
+    let mut out = segment(CLIENT, 0);
+    out[6] = 0x80;
+    say(b"the reserved bit set under the same checksum:");
+    first(&out);
+    say(b"the reserved bit set:");
+    sent(CLIENT, 0x8000);
+    say(b"the reserved bit set, and another source:");
+    sent(SERVER, 0x8000);
+    say(b"the reserved bit and MF set, 21 bytes:");
+    sent(CLIENT, 0xa000);
 }
 
 // A ping and a telemetry datagram, of 52 bytes each, with identification 0 between the same hosts.
@@ -354,5 +368,6 @@ fn main() {
     total_length();
     time_to_live();
     pieces();
+    reserved();
     both();
 }

@@ -20,7 +20,7 @@ fn verifies(parts: &[&[u8]]) -> bool {
     sum == 0xffff
 }
 
-/// The packet up to its total length: 4 (under 20), 5, 6, 4 (total), 7.
+/// The packet up to its total length: 4 (under 20), 5, 6, 4 (total), 7, 18.
 fn read(packet: &[u8]) -> Result<&[u8], Refusal> {
     if packet.len() < 20 {
         return Err(Refusal::Short);
@@ -31,6 +31,7 @@ fn read(packet: &[u8]) -> Result<&[u8], Refusal> {
         _ if total < 20 => Err(Refusal::BadTotal),
         _ if packet.len() < total => Err(Refusal::Short),
         _ if !verifies(&[&packet[..20]]) => Err(Refusal::BadHeader),
+        _ if be16(packet, 6) & 0x8000 != 0 => Err(Refusal::Reserved),
         _ => Ok(&packet[..total]),
     }
 }
@@ -81,7 +82,7 @@ impl Piece {
         self.start + self.data.len()
     }
 
-    /// 4, 5, 6, 4, 7, 8, 9, 10.
+    /// 4, 5, 6, 4, 7, 18, 8, 9, 10.
     pub fn read(key: Key, packet: &[u8]) -> Result<Self, Refusal> {
         let packet = read(packet)?;
         let field = be16(packet, 6);

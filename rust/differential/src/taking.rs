@@ -24,10 +24,13 @@ fn piece(rng: &mut Rng, template: &Template, payload: &[u8], len: u16) -> Vec<u8
     out
 }
 
-/// What is taken: mostly a piece as it was cut, and else one of another protocol, one with other
-/// bytes, or damaged.
+/// What is taken: mostly a piece as it was cut with the reserved bit clear, and else one with that bit
+/// set, of another protocol, with other bytes, or damaged.
 pub fn packet(rng: &mut Rng, template: &Template, payload: &[u8], len: u16, odd: bool) -> Vec<u8> {
-    let mut template = *template;
+    let mut template = Template {
+        evil: rng.once_in(16),
+        ..*template
+    };
     if rng.once_in(16) {
         template.protocol ^= 1 << rng.below(8);
     }
