@@ -44,7 +44,7 @@ fn written(feed: Feed, fed: Fed) -> Written
 }
 
 // The records of frame i at the start of out.
-pub fn put(feed: Feed, i: u64, bytes: &[u8], scratch: &mut [u8], out: &mut [u8]) -> Written
+pub(crate) fn put(feed: Feed, i: u64, bytes: &[u8], scratch: &mut [u8], out: &mut [u8]) -> Written
     requires { ⌜ Ready feed i (length (now bytes)) (length (now scratch)) (length (now out)) ⌝ }
     ensures { λ r. ⌜ Put feed i (now (bytes .entry)) (now (out .entry)) r (now (out .exit)) ⌝ }
 {

@@ -41,7 +41,7 @@ fn less_output(feed: Feed, bytes: &[u8]) -> u8 {
 }
 
 // All of them: `long` has 65,508 bytes, and `bytes` has 12, which the feed's link takes in one piece.
-pub fn each(feed: Feed, long: &[u8], bytes: &[u8]) -> [u8; 9] {
+pub(crate) fn each(feed: Feed, long: &[u8], bytes: &[u8]) -> [u8; 9] {
     [
         over(feed, 65535, long, 0),
         over(feed, 27, bytes, 0),
