@@ -2,7 +2,7 @@
 use mathlib.Core.Logic.{_↔_}
 use mathlib.Core.Path.{_≡_, refl, sym, ap, _∙_}
 use mathlib.Core.Bool.{true}
-use mathlib.Core.List.{List, [], append-nil}
+use mathlib.Core.List.{List, [], _∷_, append-nil, List·Memᴰ, List·Memᴰ·head, List·Memᴰ·not-nil}
 use Prim.Native.Nat.{ℕ, _≤_, _<_}
 use native.Mathlib.Omega.{arith}
 use lib.ListN.{length, take}
@@ -20,7 +20,7 @@ use Rattle.assembly.specs.Cut.{requested}
 use Rattle.assembly.specs.Calls.{capacity, mapBytes, takeAnswer, Takes, usable, progressAnswer}
 use Rattle.assembly.proofs.Delivers.{says-complete, taken-usable}
 use Rattle.assembly.proofs.Only.{progress-only}
-use Rattle.demands.specs.Handing.{Handed}
+use Rattle.demands.specs.Handing.{Handed, DrawnFrom, Reordered}
 use Rattle.demands.specs.Assembling.{templateKey, AllBuilt, Cover, afterPackets}
 use Rattle.demands.specs.Cutting.{CutBy, AllCut, CallsAssemble}
 use Rattle.demands.specs.Demand3.{OneHeader, FromOne}
@@ -92,3 +92,38 @@ module _ (t : Template) (p : List ℕ) (one : OneHeader t) (few : length p ≤ c
             let size : n ≡ length p = ap (λ (x : Standing). x .bytes) (given-same same) in
             (size, ap (λ (k : ℕ). take k d) size ∙ ap (λ (u : State). take (length p) (u .payload)) state-is ∙ g .bytes);
       }
+
+-- ---- all of them
+
+-- a list that has all of another that is not empty is not empty
+some-of : (ps ls : List (List ℕ)) → 0 < length ps → DrawnFrom ls ps → 0 < length ls
+some-of [] ls h each = absurd (omega arith)
+some-of (p ∷ ps) ls h each = go ls (each p (List·Memᴰ·head refl))
+  where
+    go : (qs : List (List ℕ)) → List·Memᴰ p qs → 0 < length qs
+    go [] m = absurd (List·Memᴰ·not-nil m)
+    go (q ∷ qs) m = omega arith
+
+-- All pieces of a list that covers the payload, in any order and with any repeats: complete, and the payload is held.
+pub all-handed : (t : Template) (p : List ℕ) → OneHeader t → length p ≤ capacity → (ps ls : List (List ℕ)) → 0 < length ps → AllCut t p ps → Cover t p ps
+    → Reordered ps ls → (r : Rec) (d m : List ℕ) → Handed (templateKey t) ls r d m
+    → (progressAnswer capacity mapBytes (view r d m) ≡ progressSays (Complete (length p))) × (take (length p) d ≡ p)
+unfolding Cover
+all-handed t p one few ps ls some cut cover (among, each) r d m handed =
+    let calls = calls-assemble t p one few in
+    let state = calls .handing ls r d m handed in
+    let of-one = all-built t p ls (λ l in-list. cut l (among l in-list)) in
+    let c : Cover t p ls =
+    λ j h.
+    let x = cover j h in
+    record {
+      packet = x .packet;
+      off = x .off;
+      len = x .len;
+      handed = each (x .packet) (x .handed);
+      asked = x .asked;
+      from = x .from;
+      till = x .till;
+    } in
+    let g = calls .assembles .held ls of-one (calls .assembles .complete-when ls of-one .1 (some-of ps ls some each, c)) in
+    (ap (progressAnswer capacity mapBytes) state ∙ g .told, ap (λ (u : State). take (length p) (u .payload)) state ∙ g .bytes)

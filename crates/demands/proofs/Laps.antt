@@ -1,6 +1,6 @@
 -- A frame's pieces, put together, are its datagram, and that is checked good.
 use mathlib.Core.Path.{_≡_, refl, sym, ap, subst, _∙_}
-use mathlib.Core.List.{List, [], _∷_, append-nil, List·Memᴰ, List·Memᴰ·not-nil}
+use mathlib.Core.List.{List, [], append-nil}
 use Prim.Native.Nat.{ℕ, _+_, _≤_, _<_}
 use native.Mathlib.Omega.{arith}
 use lib.ListN.{length, take, drop}
@@ -17,32 +17,27 @@ use Rattle.feed.specs.declared.Feed.{Feed}
 use Rattle.feed.specs.Feed.{frameDgram, templateOf, payloadOf, framePackets}
 use Rattle.feed.proofs.Feeding.{payload-length}
 use Rattle.feed.proofs.Cutting.{pieces-within, pieces-reach}
+use Rattle.feed.proofs.Fitting.{frames-fit}
+use Rattle.planner.proofs.Counting.{count-some}
 use Rattle.feed.proofs.Runs.{Left, left-accepted}
 use Rattle.inspect.specs.Answers.{good}
 use Rattle.inspect.specs.Check.{checkAnswer}
 use Rattle.assembly.specs.declared.Rec.{Rec}
 use Rattle.assembly.specs.declared.step.Progress.the-variants.{Complete}
 use Rattle.assembly.specs.View.{view}
-use Rattle.assembly.specs.Assembly.{State}
 use Rattle.assembly.proofs.Only.{progress-only}
 use Rattle.assembly.specs.Answers.{progressSays}
 use Rattle.assembly.specs.Calls.{capacity, mapBytes, progressAnswer}
 use Rattle.demands.specs.Ranges.{Fitting}
-use Rattle.demands.specs.Handing.{Handed}
+use Rattle.demands.specs.Handing.{Handed, DrawnFrom, Reordered}
 use Rattle.demands.specs.Assembling.{templateKey, by-fragment, Cover}
 use Rattle.demands.specs.Cutting.{CutBy, AllCut}
 use Rattle.demands.specs.Demand3.{OneHeader, FromOne}
 use Rattle.demands.specs.Round.{payloadIn, of-udp}
-use Rattle.demands.specs.Laps.{FrameFed, DrawnFrom, Reordered, Assembled, LapAssembles}
+use Rattle.demands.specs.Laps.{FrameFed, Assembled, LapAssembles}
 use Rattle.demands.proofs.Left.{single}
-use Rattle.demands.proofs.Completing.{calls-assemble, all-built}
-use Rattle.demands.proofs.Gathering.{from-one}
+use Rattle.demands.proofs.Gathering.{from-one, all-handed}
 use Rattle.demands.proofs.Round.{datagram-good}
-
--- a list with a member is not empty
-some-length : (p : List ℕ) (ps : List (List ℕ)) → List·Memᴰ p ps → 0 < length ps
-some-length p [] m = absurd (List·Memᴰ·not-nil m)
-some-length p (q ∷ ps) m = omega arith
 
 module _ (f : Feed) (b s′ : List ℕ) (x : FrameFed f b s′) where
   abbrev t : Template
@@ -73,19 +68,19 @@ module _ (f : Feed) (b s′ : List ℕ) (x : FrameFed f b s′) where
 
   cut : AllCut t d (framePackets f b)
   cut l m =
-      let p = pieces-within t d (f .link) (left .granted .least) l m in
+      let p = pieces-within t d (f .link) l m in
       (p .off, p .len, subst (λ (k : List ℕ). CutBy t d k (p .off) (p .len)) (sym (p .is)) (single t d (p .off) (p .len) few (p .within)))
 
-  cover-by : (ls : List (List ℕ)) → DrawnFrom ls (framePackets f b) → Cover t d ls
+  cover : Cover t d (framePackets f b)
   unfolding Cover
-  cover-by ls each j h =
-      let p = pieces-reach t d (f .link) (left .granted .least) j h in
+  cover j h =
+      let p = pieces-reach t d (f .link) j h in
       let k : List ℕ = packetOf (fragmentOf t (p .off) (p .len)) d in
       record {
         packet = k;
         off = p .off;
         len = p .len;
-        handed = each k (p .among);
+        handed = p .among;
         asked = by-fragment (p .off) (p .len) [] (p .within) (sym (append-nil k));
         from = p .from;
         till = p .till;
@@ -95,12 +90,6 @@ module _ (f : Feed) (b s′ : List ℕ) (x : FrameFed f b s′) where
   some ls among r p m handed = from-one t d one few ls r p m (λ l in-list. cut l (among l in-list)) handed
 
   -- ---- all of them
-
-  not-none : (ls : List (List ℕ)) → Cover t d ls → 0 < length ls
-  unfolding Cover
-  not-none ls c =
-      let at-first = c 0 (omega (arith, payload-length f b)) in
-      some-length (at-first .packet) ls (at-first .handed)
 
   -- the datagram in the scratch buffer
   given : answerOf (Udp (frameDgram f)) (length b) (length (x .scratch)) ≡ gives (28 + length b)
@@ -125,16 +114,13 @@ module _ (f : Feed) (b s′ : List ℕ) (x : FrameFed f b s′) where
       (subst (λ (z : List ℕ). Answered (datagramOf t k) z o (Packet n) o′) same y))
 
   all : (ls : List (List ℕ)) → Reordered (framePackets f b) ls → (r : Rec) (p m : List ℕ) → Handed (templateKey t) ls r p m → Assembled f b r p m
-  all ls (among, each) r p m handed =
-      let calls = calls-assemble t d one few in
-      let state = calls .handing ls r p m handed in
-      let of-one = all-built t d ls (λ l in-list. cut l (among l in-list)) in
-      let c = cover-by ls each in
-      let g = calls .assembles .held ls of-one (calls .assembles .complete-when ls of-one .1 (not-none ls c, c)) in
+  all ls same r p m handed =
+      let many : 0 < length (framePackets f b) = omega (arith, frames-fit f b (left .granted .good) .pieces, count-some (8 + length b) (f .link)) in
+      let g = all-handed t d one few (framePackets f b) ls many cut cover same r p m handed in
       let size : length d ≡ 8 + length b = payload-length f b in
       let told : progressAnswer capacity mapBytes (view r p m) ≡ progressSays (Complete (8 + length b)) =
-      ap (progressAnswer capacity mapBytes) state ∙ g .told ∙ ap (λ (n : ℕ). progressSays (Complete n)) size in
-      let bytes : take (8 + length b) p ≡ d = ap (λ (n : ℕ). take n p) (sym size) ∙ ap (λ (u : State). take (length d) (u .payload)) state ∙ g .bytes in
+      g .0 ∙ ap (λ (n : ℕ). progressSays (Complete n)) size in
+      let bytes : take (8 + length b) p ≡ d = ap (λ (n : ℕ). take n p) (sym size) ∙ g .1 in
       record {
         complete = λ a e. progress-only a (Complete (8 + length b)) _ e (sym told);
         holds = bytes;
@@ -147,7 +133,7 @@ lap-assembles f b s′ x =
     record {
       datagram = datagram f b s′ x;
       cut = cut f b s′ x;
-      cover = cover-by f b s′ x (framePackets f b) (λ p m. m);
+      cover = cover f b s′ x;
       some = some f b s′ x;
       all = all f b s′ x;
     }

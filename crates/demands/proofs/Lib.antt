@@ -14,3 +14,4 @@ pub mod Listing
 pub mod Demands
 pub mod Tabled
 pub mod Laps
+pub mod Plans

@@ -119,7 +119,7 @@ module _ (t : Template) (rs : List BlockRequest) (p o′ e′ : List ℕ) (x : L
       subst (λ (l : List ℕ). CutBy t p l (requestAt rs i .off) (requestAt rs i .len)) (sym is) (cut (requestAt rs i) (at-member rs i _ h))
 
   -- and any that is among them is that of some request.
-  all-cut : AllCut t p (packetsIn rs o′ e′)
+  pub all-cut : AllCut t p (packetsIn rs o′ e′)
   all-cut l m =
       let (r, in-list, is) = Memᴰ·of-map (packetFor t p) rs (subst (List·Memᴰ l) packets-are m) in
       (r .off, r .len, subst (λ (k : List ℕ). CutBy t p k (r .off) (r .len)) is (cut r in-list))

@@ -36,6 +36,8 @@ use Rattle.table.specs.Table.{openedAt, placedAt, placeFor, steppedBy, pieceFor
 use Rattle.packet.specs.Headroom.{mostEnd, valid, leads}
 use Rattle.packet.specs.Answers.{ifValid, lowerAnswer, copyAnswer}
 use Rattle.packet.specs.declared.Packet.{Packet}
+use Rattle.planner.specs.Cutting.{pieceCount}
+use Rattle.planner.specs.Answers.{canPlan, planAnswer}
 use Rattle.feed.specs.Feed.{badLink, frameSize, feedAnswer, writtenFor}
 use Rattle.pcap.specs.Answers.{recordAnswer}
 use Rattle.demands.specs.Numbers.{isIn, Among, number, accepted, AmongList, number-whole, number-at, accepted-all, buildNumbers, Numbered}
@@ -246,6 +248,11 @@ record-in n usec room =
     refusing _ (ltb 65535 n) 1 _ refl (refusing _ (ltb 999999 usec) 17 _ refl (refusing _ (ltb room (16 + n)) 3 _ refl (accepted _)))
 
 -- a frame of a feed
+plan-in : (n m places : ℕ) → Among (1 ∷ 21 ∷ 3 ∷ []) (planAnswer n m places)
+plan-in n m places =
+    refusing _ (ltb 65515 n) 1 _ refl
+    (refusing _ (not (canPlan n m)) 21 _ refl (refusing _ (ltb places (pieceCount n m)) 3 _ refl (accepted _)))
+
 feed-in : (m n usec scratch out : ℕ) → Among (1 ∷ 24 ∷ 17 ∷ 3 ∷ []) (feedAnswer m n usec scratch out)
 feed-in m n usec scratch out =
     refusing _ (ltb 65507 n) 1 _ refl
@@ -293,6 +300,9 @@ numbered =
       recording = λ n usec room r e. told _ _ _ e (record-in n usec room);
       capturing = λ sec usec d o r o′ x. told _ _ _ (x .answer) (record-in (length d) usec (length o));
       heading = λ o r o′ x. told _ _ _ (x .answer) (fitting-in 24 (length o));
+      judging = λ n b r e. told _ _ _ e (refusing _ (ltb 65515 n) 1 _ refl (accepted b));
+      deciding = λ n m places j x. told _ _ _ (x .0) (plan-in n m places);
+      planning = λ n m l r l′ x. told _ _ _ (x .answer) (plan-in n m (length l));
       feeding = λ f b sec usec s o r s′ o′ x. told _ _ _ (x .answer) (mapped-in _ (writtenFor f (length b)) _ (feed-in (f .link) (length b) usec (length s) (length o)));
       making =
           λ h b r b′ x.

@@ -8,6 +8,8 @@ use Rattle.pkt.specs.Answers.{Answer, refused, gives, mapped, plainly}
 use Rattle.pkt.specs.Written.{leaves}
 use Rattle.ezpkt.specs.Build.{answerOf, packetOf, udpPacket}
 use Rattle.pcap.specs.Pcap.{recordsBytes}
+use Rattle.planner.specs.Cutting.{planned}
+use Rattle.planner.specs.Answers.{listAfter}
 use Rattle.feed.specs.Feed.{frameDgram, frameRecords, feedAnswer, writtenFor}
 use Rattle.ezpkt.specs.Icmp4.{echoGone}
 use Rattle.packet.proofs.Answers.{kept}
@@ -103,6 +105,7 @@ refused-keep =
       appending = λ p k d b b′ n x. x .after ∙ kept _ n _ b (sym (x .answer));
       prepending = λ p d b b′ n x. x .after ∙ kept _ n _ b (sym (x .answer));
       copying = λ ok k d o o′ n x. x .after ∙ kept _ n _ o (sym (x .answer));
+      planning = λ n m l l′ k x. x .list-is ∙ ap (λ (a : Answer ℕ). listAfter a (planned n m) l) (sym (x .answer));
       feeding =
           λ f b sec usec s o s′ o′ n x.
           let a = feedAnswer (f .link) (length b) usec (length s) (length o) in

@@ -2,7 +2,7 @@
 use mathlib.Core.Path.{_≡_}
 use mathlib.Core.Logic.{_↔_}
 use mathlib.Core.Bool.{true}
-use mathlib.Core.List.{List, [], _∷_, _++_}
+use mathlib.Core.List.{List, [], _∷_, _++_, List·Memᴰ}
 use Prim.Native.Nat.{ℕ}
 use Rattle.assembly.specs.declared.Key.{Key}
 use Rattle.assembly.specs.declared.Rec.{Rec}
@@ -19,6 +19,13 @@ pub data Handed (k : Key) : List (List ℕ) → Rec → List ℕ → List ℕ �
   by-open : (d m d′ m′ : List ℕ) (r : Rec) → Opens capacity mapBytes k d m (Open r) d′ m′ → Handed k [] r d′ m′
   by-take : (ls : List (List ℕ)) (l d m d′ m′ : List ℕ) (r : Rec) (a : Taken) → Handed k ls r d m → Takes capacity mapBytes (view r d m) l a d′ m′
       → Handed k (ls ++ (l ∷ [])) (recAfter (takenSays a) r) d′ m′
+
+-- The packets ls are among ps, or are ps in any order and with any repeats.
+abbrev pub DrawnFrom : List (List ℕ) → List (List ℕ) → Type 0
+DrawnFrom ps ls = (p : List ℕ) → List·Memᴰ p ls → List·Memᴰ p ps
+
+abbrev pub Reordered : List (List ℕ) → List (List ℕ) → Type 0
+Reordered ps ls = DrawnFrom ps ls × DrawnFrom ls ps
 
 pub record InAnyOrder (k : Key) : Type 0 where
   -- "Start from a newly opened assembly. The same accepted pieces, in any order and with any repeats, end in the same state": the record

@@ -1,6 +1,6 @@
 -- Document 02, T-05: "For each frame the assembled pieces are that datagram and the check answers good."
 use mathlib.Core.Path.{_≡_}
-use mathlib.Core.List.{List, List·Memᴰ}
+use mathlib.Core.List.{List}
 use Prim.Native.Nat.{ℕ, _+_, _<_}
 use lib.ListN.{length, take}
 use Rattle.pkt.specs.Answers.{gives}
@@ -21,7 +21,7 @@ use Rattle.assembly.specs.View.{view}
 use Rattle.assembly.specs.Answers.{progressSays}
 use Rattle.assembly.specs.Calls.{capacity, mapBytes, progressAnswer}
 use Rattle.demands.specs.Ranges.{Between}
-use Rattle.demands.specs.Handing.{Handed}
+use Rattle.demands.specs.Handing.{Handed, DrawnFrom, Reordered}
 use Rattle.demands.specs.Assembling.{templateKey, Cover}
 use Rattle.demands.specs.Cutting.{AllCut}
 use Rattle.demands.specs.Demand3.{FromOne}
@@ -39,13 +39,6 @@ pub record FrameFed (f : Feed) (b s′ : List ℕ) : Type 0 where
   pub answered : Written
   pub output′ : List ℕ
   pub call : Feeds f b sec usec scratch output (fed.Frame answered) s′ output′
-
--- The packets ls are among ps, or are ps in any order and with any repeats.
-abbrev pub DrawnFrom : List (List ℕ) → List (List ℕ) → Type 0
-DrawnFrom ps ls = (p : List ℕ) → List·Memᴰ p ls → List·Memᴰ p ps
-
-abbrev pub Reordered : List (List ℕ) → List (List ℕ) → Type 0
-Reordered ps ls = DrawnFrom ps ls × DrawnFrom ls ps
 
 -- An assembly that was handed all the pieces of a frame of the telemetry b; r, d and m are its record and buffers after them.
 pub record Assembled (f : Feed) (b : List ℕ) (r : Rec) (d m : List ℕ) : Type 0 where

@@ -14,3 +14,4 @@ pub mod Demand3
 pub mod Listing
 pub mod Tabled
 pub mod Laps
+pub mod Plans

@@ -53,6 +53,10 @@ use Rattle.packet.specs.declared.Truth.{Truth}
 use Rattle.packet.specs.declared.Part.{Part}
 use Rattle.packet.specs.declared.Made.{Made}
 use Rattle.packet.specs.declared.Pushed.{Pushed}
+use Rattle.planner.specs.Answers.{judgedSays, judgeAnswer, plannedSays, Decided, Plans}
+use Rattle.planner.specs.declared.Job.{Job}
+use Rattle.planner.specs.declared.Judged.{Judged}
+use Rattle.planner.specs.declared.Planned.{Planned}
 use Rattle.feed.specs.Feed.{fedSays, Feeds}
 use Rattle.feed.specs.declared.Feed.{Feed}
 use Rattle.feed.specs.declared.Fed.{Fed}
@@ -131,6 +135,10 @@ pub record Numbered : Type 0 where
   pub capturing : (sec usec : ℕ) (d o : List ℕ) (r : Captured) (o′ : List ℕ) → RecordWritten sec usec d o r o′ → Among (1 ∷ 17 ∷ 3 ∷ []) (capturedSays r)
   -- `write_header`
   pub heading : (o : List ℕ) (r : Captured) (o′ : List ℕ) → HeaderWritten o r o′ → Among (3 ∷ []) (capturedSays r)
+  -- Document 02, T-07, "The check .. refuses with 1. Refusals of the planner: 1, then 21 .., then 3": `is_plan` and `judge`, `decide`, `plan`
+  pub judging : (n : ℕ) (b : Bool) (r : Judged) → judgedSays r ≡ judgeAnswer n b → Among (1 ∷ []) (judgedSays r)
+  pub deciding : (n m places : ℕ) (j : Job) → Decided n m places j → Among (1 ∷ 21 ∷ 3 ∷ []) (plannedSays (j .answer))
+  pub planning : (n m : ℕ) (l : List BlockRequest) (r : Planned) (l′ : List BlockRequest) → Plans n m l r l′ → Among (1 ∷ 21 ∷ 3 ∷ []) (plannedSays r)
   -- Document 02, T-05, "1, 24 .., 17, 3": a feed's `frame` (`begin` is `write_header`)
   pub feeding : (f : Feed) (b : List ℕ) (sec usec : ℕ) (s o : List ℕ) (r : Fed) (s′ o′ : List ℕ) → Feeds f b sec usec s o r s′ o′
       → Among (1 ∷ 24 ∷ 17 ∷ 3 ∷ []) (fedSays r)

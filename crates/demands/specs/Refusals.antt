@@ -34,6 +34,8 @@ use Rattle.packet.specs.declared.Packet.{Packet}
 use Rattle.packet.specs.declared.Made.the-variants as made
 use Rattle.packet.specs.declared.Pushed.the-variants as pushed
 use Rattle.packet.specs.declared.Number.the-variants as number
+use Rattle.planner.specs.Answers.{Plans}
+use Rattle.planner.specs.declared.Planned.the-variants as planned
 use Rattle.feed.specs.Feed.{Feeds}
 use Rattle.feed.specs.declared.Feed.{Feed}
 use Rattle.feed.specs.declared.Fed.the-variants as fed
@@ -80,6 +82,8 @@ pub record RefusedKeep : Type 0 where
   pub prepending : (p : Packet) (d b b′ : List ℕ) (n : ℕ) → Prepended p d b (pushed.Refused n) b′ → b′ ≡ b
   -- `to_vec`, `to_vec_from`, `hex_dump`: the output
   pub copying : (ok : Bool) (k : ℕ) (d o o′ : List ℕ) (n : ℕ) → CopiedOut ok k d o (number.Refused n) o′ → o′ ≡ o
+  -- `plan`: the list
+  pub planning : (n m : ℕ) (l l′ : List BlockRequest) (k : ℕ) → Plans n m l (planned.Refused k) l′ → l′ ≡ l
   -- a feed's `frame`: the scratch buffer and the output ("A refused frame uses no identification and writes nothing"; its feed stays the caller's)
   pub feeding : (f : Feed) (b : List ℕ) (sec usec : ℕ) (s o s′ o′ : List ℕ) (n : ℕ) → Feeds f b sec usec s o (fed.Refused n) s′ o′ → (s′ ≡ s) × (o′ ≡ o)
   -- `write_header`, `write_record`: the output

@@ -9,8 +9,9 @@ use lib.ListN.{length}
 use Rattle.ezpkt.specs.Build.{startAt, endAt, packetOf}
 use Rattle.ezpkt.specs.Ip4.{fragmentOf}
 use Rattle.ezpkt.specs.declared.ip4.Template.{Template}
-use Rattle.feed.specs.Cutting.{blocksIn, pieceCount, lengthAt, piecesFrom, cutFor}
-use Rattle.feed.proofs.Counting.{count-some, begins-within}
+use Rattle.planner.specs.Cutting.{blocksIn, pieceCount, lengthAt, requestsFrom}
+use Rattle.feed.specs.Cutting.{piecesFrom, cutFor}
+use Rattle.planner.proofs.Counting.{count-some, begins-within}
 use Rattle.feed.proofs.Fitting.{full-before}
 
 -- p is the packet of a piece of d that begins within it
@@ -31,7 +32,7 @@ pub record PieceAt (t : Template) (d : List ℕ) (ps : List (List ℕ)) (j : ℕ
 
 module _ (t : Template) (d : List ℕ) (b : ℕ) where
   each-within : (k off : ℕ) → 8 * off + k * (8 * b) ≤ length d → (p : List ℕ) → List·Memᴰ p (piecesFrom t d b (suc k) off) → PieceWithin t d p
-  unfolding piecesFrom
+  unfolding requestsFrom
   each-within zero off h p m = go (List·Memᴰ·cases-cons m)
     where
       go : (p ≡ packetOf (fragmentOf t off (lengthAt b 0 off (length d))) d) ⊎ List·Memᴰ p [] → PieceWithin t d p
@@ -45,7 +46,7 @@ module _ (t : Template) (d : List ℕ) (b : ℕ) where
       go (inr n) later = later n
 
   each-reached : (k off : ℕ) → 8 * off + k * (8 * b) ≤ length d → (j : ℕ) → 8 * off ≤ j → j < length d → PieceAt t d (piecesFrom t d b (suc k) off) j
-  unfolding piecesFrom
+  unfolding requestsFrom
   each-reached zero off h j from till =
       record {
         off = off;
@@ -74,12 +75,12 @@ module _ (t : Template) (d : List ℕ) (b : ℕ) where
             till = omega (arith, w);
           }
 
-module _ (t : Template) (d : List ℕ) (m : ℕ) (least : 28 ≤ m) where
+module _ (t : Template) (d : List ℕ) (m : ℕ) where
   counted : pieceCount (length d) m ≡ suc (pieceCount (length d) m - 1)
   counted = omega (arith, count-some (length d) m)
 
   pub pieces-within : (p : List ℕ) → List·Memᴰ p (cutFor t d m) → PieceWithin t d p
-  pieces-within p q = each-within t d (blocksIn m) (pieceCount (length d) m - 1) 0 (omega (arith, begins-within (length d) m least)) p (rw counted at q)
+  pieces-within p q = each-within t d (blocksIn m) (pieceCount (length d) m - 1) 0 (omega (arith, begins-within (length d) m)) p (rw counted at q)
 
   pub pieces-reach : (j : ℕ) → j < length d → PieceAt t d (cutFor t d m) j
-  pieces-reach j till = rw counted (each-reached t d (blocksIn m) (pieceCount (length d) m - 1) 0 (omega (arith, begins-within (length d) m least)) j (omega arith) till)
+  pieces-reach j till = rw counted (each-reached t d (blocksIn m) (pieceCount (length d) m - 1) 0 (omega (arith, begins-within (length d) m)) j (omega arith) till)

@@ -18,7 +18,10 @@ use Rattle.ezpkt.specs.Build.{flowIp, udpHdr, udpField, udpPacket}
 use Rattle.pcap.specs.Answers.{mostMicros}
 use Rattle.feed.specs.declared.Feed.{Feed}
 use Rattle.feed.specs.Feed.{badLink, frameDgram, payloadOf, frameSize, feedAnswer}
-use Rattle.feed.proofs.Counting.{link-good}
+
+-- a link that 24 does not refuse
+pub link-good : (m : ℕ) → badLink m ≡ false → (28 ≤ m) × (m ≤ 65535)
+link-good m e = let p = or-no (ltb m 28) (ltb 65535 m) e in (ltb-false m 28 (p .0), ltb-false 65535 m (p .1))
 
 -- nothing is refused
 pub record Granted (m n usec scratch out size : ℕ) : Type 0 where

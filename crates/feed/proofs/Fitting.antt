@@ -13,15 +13,17 @@ use Rattle.ezpkt.specs.declared.ip4.Template.{Template}
 use Rattle.ezpkt.proofs.Sizes.{size-is}
 use Rattle.pcap.specs.Pcap.{recordBytes, recordsBytes}
 use Rattle.feed.specs.declared.Feed.{Feed}
-use Rattle.feed.specs.Cutting.{blocksIn, pieceCount, lengthAt, piecesFrom}
+use Rattle.planner.specs.Cutting.{blocksIn, pieceCount, lengthAt, requestsFrom}
+use Rattle.feed.specs.Cutting.{piecesFrom}
 use Rattle.feed.specs.Feed.{badLink, templateOf, payloadOf, FrameFits}
 use Rattle.feed.specs.Steps.{recordLong, recordsFrom}
-use Rattle.feed.proofs.Counting.{link-good, count-some, begins-within, count-covers}
+use Rattle.planner.proofs.Counting.{count-some, begins-within, count-covers}
+use Rattle.feed.proofs.Feeding.{link-good}
 use Rattle.feed.proofs.Feeding.{payload-length}
 use Rattle.feed.proofs.Recording.{last-size, full-size, record-long}
 
 pieces-many : (t : Template) (d : List ℕ) (b count off : ℕ) → length (piecesFrom t d b count off) ≡ count
-unfolding piecesFrom
+unfolding requestsFrom
 pieces-many t d b zero off = refl
 pieces-many t d b (suc k) off = ap suc (pieces-many t d b k (off + b))
 
@@ -31,7 +33,7 @@ full-before b n k off h = omega (arith, suc-mul k (8 * b))
 
 records-long : (t : Template) (d : List ℕ) (b k off sec usec : ℕ) → 8 * off + k * (8 * b) ≤ length d
     → length (recordsFrom t d b (suc k) off sec usec) ≡ 36 * suc k + (length d - 8 * off)
-unfolding piecesFrom recordsBytes
+unfolding requestsFrom recordsBytes
 records-long t d b zero off sec usec h =
     let one : List ℕ = recordBytes sec usec (packetOf (fragmentOf t off (lengthAt b 0 off (length d))) d) in
     omega (arith, length-append one [], record-long t d off (lengthAt b 0 off (length d)) sec usec, last-size b (length d) off (omega arith))
@@ -48,7 +50,7 @@ packet-long t d off len = ap (λ (k : ℕ). 16 + k) (size-is (fragmentOf t off l
 
 packets-fit : (t : Template) (d : List ℕ) (b k off room : ℕ) → 8 * b ≤ room → 8 * off + k * (8 * b) ≤ length d → length d ≤ 8 * off + k * (8 * b) + room
     → (p : List ℕ) → List·Memᴰ p (piecesFrom t d b (suc k) off) → length p ≤ 20 + room
-unfolding piecesFrom
+unfolding requestsFrom
 packets-fit t d b zero off room full h most p m = go (List·Memᴰ·cases-cons m)
   where
     go : (p ≡ packetOf (fragmentOf t off (lengthAt b 0 off (length d))) d) ⊎ List·Memᴰ p [] → length p ≤ 20 + room
@@ -76,7 +78,7 @@ frames-fit f b good =
     let c : ℕ = pieceCount (length d) m in
     let k : ℕ = c - 1 in
     let s : c ≡ suc (c - 1) = omega (arith, count-some (length d) m) in
-    let w = begins-within (length d) m (g .0) in
+    let w = begins-within (length d) m in
     let v = count-covers (length d) m (g .0) in
     let n = payload-length f b in
     record {

@@ -1,4 +1,3 @@
-pub mod Counting
 pub mod Cutting
 pub mod Feeding
 pub mod Fitting

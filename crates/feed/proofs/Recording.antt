@@ -13,7 +13,8 @@ use Rattle.ezpkt.proofs.Sizes.{size-is}
 use Rattle.ezpkt.proofs.Deciding.{udp-given, piece-given}
 use Rattle.pcap.specs.Pcap.{recordBytes, recordsBytes}
 use Rattle.pcap.proofs.Pcap.{record-length}
-use Rattle.feed.specs.Cutting.{lengthAt, piecesFrom}
+use Rattle.planner.specs.Cutting.{lengthAt, requestsFrom}
+use Rattle.feed.specs.Cutting.{piecesFrom}
 use Rattle.feed.specs.Steps.{recordLong, recordsFrom}
 use Rattle.ezpkt.specs.Build.{fragmentSize, packetOf, udpPacket, Answered}
 use Rattle.ezpkt.specs.Ip4.{fragmentOf}
@@ -81,12 +82,12 @@ turn-next b n (suc k) off at out h t =
 pub records-step : (t : Template) (d : List ℕ) (b left off sec usec : ℕ) → 0 < left
     → recordsFrom t d b left off sec usec
     ≡ recordBytes sec usec (packetOf (fragmentOf t off (lengthAt b (left - 1) off (length d))) d) ++ recordsFrom t d b (left - 1) (off + b) sec usec
-unfolding piecesFrom recordsBytes
+unfolding requestsFrom recordsBytes
 records-step t d b zero off sec usec h = absurd (omega arith)
 records-step t d b (suc k) off sec usec h = let z : suc k - 1 ≡ k = omega arith in rw z refl
 
 pub records-none : (t : Template) (d : List ℕ) (b left off sec usec : ℕ) → left ≡ 0 → recordsFrom t d b left off sec usec ≡ []
-unfolding piecesFrom recordsBytes
+unfolding requestsFrom recordsBytes
 records-none t d b zero off sec usec e = refl
 records-none t d b (suc k) off sec usec e = absurd (omega arith)
 

@@ -1,44 +1,21 @@
--- Document 02, T-05: "cuts each UDP datagram .. into the fewest pieces, each but the last as full as blocks allow".
-use Prim.Native.Nat.{ℕ, zero, suc, _+_, _-_, _*_, _/_, _<_}
-use mathlib.Core.List.{List, [], _∷_}
+-- Document 02, T-05: "cuts each UDP datagram .. into the fewest pieces, each but the last as full as blocks allow": as T-07's planner cuts.
+use Prim.Native.Nat.{ℕ}
+use mathlib.Core.List.{List, map}
 use lib.ListN.{length}
 use Rattle.ezpkt.specs.Build.{packetOf}
 use Rattle.ezpkt.specs.Ip4.{fragmentOf}
 use Rattle.ezpkt.specs.declared.ip4.Template.{Template}
+use Rattle.pieces.specs.declared.BlockRequest.{BlockRequest}
+use Rattle.planner.specs.Cutting.{requestsFrom, planned}
 
--- the bytes that a packet carries on a link of m bytes, and how many whole blocks of 8 they have
-abbrev pub linkRoom : ℕ → ℕ
-linkRoom m = m - 20
+-- the packet of one request for bytes of d
+abbrev pub packetFor : Template → List ℕ → BlockRequest → List ℕ
+packetFor t d r = packetOf (fragmentOf t (r .off) (r .len)) d
 
-abbrev pub blocksIn : ℕ → ℕ
-blocksIn m = linkRoom m / 8
-
--- how many blocks n bytes take, the last perhaps not whole
-abbrev pub blocksOf : ℕ → ℕ
-blocksOf n = (n + 7) / 8
-
--- how many full pieces carry what the last one cannot
-abbrev pub fullAbove : ℕ → ℕ → ℕ
-fullAbove above full = (above + (full - 1)) / full
-
--- How many pieces n bytes take on a link of m bytes: "each but the last" carries whole blocks, and the last all that the link allows.
-unfoldable pub pieceCount : ℕ → ℕ → ℕ
-pieceCount n m = 1 + fullAbove (n - linkRoom m) (8 * blocksIn m)
-
--- "the fewest": with one piece less, each but the last full and the last as long as the link allows, bytes of n are left over
-pub record Fewest (n m : ℕ) : Type 0 where
-  pub fewer-leave : 1 < pieceCount n m → (pieceCount n m - 2) * (8 * blocksIn m) + linkRoom m < n
-
--- the length in blocks of the piece at block off of n bytes, with so many pieces behind it and b blocks in a full one
-abbrev pub lengthAt : ℕ → ℕ → ℕ → ℕ → ℕ
-lengthAt b zero off n = blocksOf (n - 8 * off)
-lengthAt b (suc behind) off n = b
-
--- the packets of so many pieces of d from block off on, in rising order
-unfoldable pub piecesFrom : Template → List ℕ → ℕ → ℕ → ℕ → List (List ℕ)
-piecesFrom t d b zero off = []
-piecesFrom t d b (suc behind) off = packetOf (fragmentOf t off (lengthAt b behind off (length d))) d ∷ piecesFrom t d b behind (off + b)
+-- the packets of so many pieces of d from block off on, b blocks in a full one, in rising order
+abbrev pub piecesFrom : Template → List ℕ → ℕ → ℕ → ℕ → List (List ℕ)
+piecesFrom t d b count off = map (packetFor t d) (requestsFrom (length d) b count off)
 
 -- all of d, on a link of m bytes
 abbrev pub cutFor : Template → List ℕ → ℕ → List (List ℕ)
-cutFor t d m = piecesFrom t d (blocksIn m) (pieceCount (length d) m) 0
+cutFor t d m = map (packetFor t d) (planned (length d) m)

@@ -18,7 +18,8 @@ use Rattle.feed.specs.declared.Feed.{Feed}
 use Rattle.feed.specs.declared.Written.{Written}
 use Rattle.feed.specs.declared.Fed.{Fed}
 use Rattle.feed.specs.declared.Fed.the-variants as fed
-use Rattle.feed.specs.Cutting.{pieceCount, cutFor}
+use Rattle.planner.specs.Cutting.{pieceCount}
+use Rattle.feed.specs.Cutting.{cutFor}
 
 -- "It takes a car's address and port, the core's, a link size .., numbers the datagrams by identification from 0"
 abbrev pub newFeed : SocketAddrV4 → SocketAddrV4 → ℕ → Feed

@@ -18,8 +18,7 @@ ghost use Rattle.ezpkt.specs.Build.{packetOf, udpPacket};
 ghost use Rattle.ezpkt.specs.Ip4.{fragmentOf};
 ghost use Rattle.pcap.specs.Answers.{capturedSays, HeaderWritten};
 ghost use Rattle.pcap.specs.Pcap.{recordBytes};
-ghost use Rattle.feed.specs.Cutting.{blocksIn, pieceCount, lengthAt};
-ghost use Rattle.feed.specs.Feed.{newFeed, nextFeed, badLink, frameDgram, templateOf, piecesFor, feedAnswer, Feeds};
+ghost use Rattle.feed.specs.Feed.{newFeed, nextFeed, badLink, frameDgram, templateOf, feedAnswer, Feeds};
 ghost use Rattle.feed.specs.Steps.{recordLong, PieceAsks, AllAsks, recordsFrom};
 
 const LEAST_LINK: u32 = 28;
@@ -88,19 +87,6 @@ fn is_bad(link: u32) -> bool
     link > MOST_LINK
 }
 
-// How many pieces n bytes of telemetry take.
-fn count(link: u32, n: usize) -> usize
-    requires { ⌜ (28 ≤ link) × (link ≤ 65535) × (n ≤ mostUdp) ⌝ }
-    ensures { λ r. ⌜ r ≡ piecesFor link n ⌝ }
-{
-    let most = (link - 20) as usize;
-    let full = most / 8 * 8;
-    if 8 + n <= most {
-        return 1;
-    }
-    1 + (8 + n - most + (full - 1)) / full
-}
-
 // Every refusal, in its order.
 fn answer(link: u32, n: usize, usec: u32, scratch: usize, out: usize) -> Captured
     ensures { λ r. ⌜ capturedSays r ≡ feedAnswer link n usec scratch out ⌝ }
@@ -114,7 +100,7 @@ fn answer(link: u32, n: usize, usec: u32, scratch: usize, out: usize) -> Capture
     if usec > 999999 {
         return Captured::Refused(refusal::BAD_TIME);
     }
-    let size = 36 * count(link, n) + (8 + n);
+    let size = 36 * planner::count(8 + n, link as usize) + (8 + n);
     if scratch < 28 + n {
         return Captured::Refused(refusal::NO_ROOM);
     }
@@ -185,21 +171,6 @@ fn put(
     16 + size
 }
 
-// The length in blocks of a piece with so many behind it.
-fn length_at(blocks: u16, behind: usize, off: u16, n: usize) -> u16
-    requires { ⌜ n ≤ 65515 ⌝ }
-    ensures { λ r. ⌜ r ≡ lengthAt blocks behind off n ⌝ }
-{
-    if behind > 0 {
-        return blocks;
-    }
-    let start = 8 * (off as usize);
-    if n < start {
-        return 0;
-    }
-    ((n - start + 7) / 8) as u16
-}
-
 // The records of so many pieces, at the start of out.
 fn put_all(
     template: Template,
@@ -218,7 +189,7 @@ fn put_all(
     let mut at = 0;
     while left > 0 {
         left -= 1;
-        let len = length_at(blocks, left, off, payload.len());
+        let len = planner::length_at(blocks as usize, left, off, payload.len()) as u16;
         at += put(template, payload, off, len, sec, usec, &mut out[at..]);
         off += blocks;
     }
@@ -240,7 +211,7 @@ pub fn frame(
     match answer(link, n, usec, scratch.len(), out.len()) {
         Captured::Refused(number) => Fed::Refused(number),
         Captured::Bytes(size) => {
-            let pieces = count(link, n);
+            let pieces = planner::count(8 + n, link as usize);
             let blocks = ((link - 20) / 8) as u16;
             datagram(feed, bytes, scratch);
             put_all(

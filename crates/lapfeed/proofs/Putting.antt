@@ -13,7 +13,7 @@ use Rattle.feed.specs.declared.Feed.{Feed}
 use Rattle.feed.specs.declared.Written.{Written}
 use Rattle.feed.specs.declared.Fed.{Fed}
 use Rattle.feed.specs.declared.Fed.the-variants as fed
-use Rattle.feed.specs.Cutting.{blocksIn, fullAbove, pieceCount}
+use Rattle.planner.specs.Cutting.{blocksIn, fullAbove, pieceCount}
 use Rattle.feed.specs.Feed.{nextFeed, fedSays, writtenFor, frameSize, frameRecords, feedAnswer, Feeds}
 use Rattle.lapfeed.specs.declared.Turn.{Turn}
 use Rattle.lapfeed.specs.declared.Turn.the-variants.{More}

@@ -40,6 +40,8 @@ pub const RESERVED: u8 = 18;
 pub const FULL: u8 = 19;
 // A piece ends above what a slot of a table has room for.
 pub const TOO_FAR_FOR_SLOT: u8 = 20;
+// There is no cutting plan for so many bytes and such a link.
+pub const NO_PLAN: u8 = 21;
 // A link size below 28 or above 65,535.
 pub const BAD_LINK: u8 = 24;
 // A table of assemblies has no assembly for the key, or none that is complete.

@@ -5,7 +5,8 @@ use native.Mathlib.Omega.{arith}
 use borrow.Author.Needs.{needs}
 use borrow.Author.Tests.{lt-ltb, le-ltb}
 use Rattle.feed.specs.Feed.{frameSize}
-use Rattle.feed.proofs.Counting.{link-good, count-most}
+use Rattle.planner.proofs.Counting.{count-most}
+use Rattle.feed.proofs.Feeding.{link-good}
 use Rattle.feed.proofs.answer.Statement.{statement}
 use Rattle.feed.proofs.answer.Tie as tie
 
@@ -24,12 +25,6 @@ returns-3 : tie.Need-returns-3
 returns-3 c =
     let a = c .before .before .before .before .args in
     simp (le-ltb 65507 (a .n) (omega arith), sym (c .before .before .is-bad .ensures) ∙ c .before .if2 .left, lt-ltb 999999 (a .usec) (omega arith))
-
-count-requires : tie.Need-count-requires
-count-requires c κs =
-    let a = c .before .before .before .before .args in
-    let good = link-good (a .link) (sym (c .before .before .is-bad .ensures) ∙ c .before .if2 .left) in
-    (good .0, good .1, omega arith)
 
 mul-size : tie.Need-mul-size
 mul-size c =
@@ -97,7 +92,8 @@ answer-spec =
     is-bad-requires
     returns-2
     returns-3
-    count-requires
+    (λ c. search needs)
+    (λ c κs. search needs)
     mul-size
     add-size
     add-size-2

@@ -11,16 +11,16 @@ use Rattle.ezpkt.specs.Build.{udpPacket}
 use Rattle.pcap.specs.Answers.{capturedSays}
 use Rattle.pcap.specs.Pcap.{recordsBytes}
 use Rattle.feed.specs.declared.Feed.{Feed}
-use Rattle.feed.specs.Cutting.{blocksIn, pieceCount}
+use Rattle.planner.specs.Cutting.{blocksIn, pieceCount}
 use Rattle.feed.specs.Feed.{frameDgram, payloadOf, frameRecords, piecesFor, feedAnswer, writtenFor}
 use Rattle.feed.specs.Steps.{recordsFrom}
-use Rattle.feed.proofs.Counting.{count-some, begins-within}
+use Rattle.planner.proofs.Counting.{count-some, begins-within}
 use Rattle.feed.proofs.Feeding.{granted, payload-length, payload-lent}
 use Rattle.feed.proofs.frame.Statement.{statement}
 use Rattle.feed.proofs.frame.Tie as tie
 
-count-requires : tie.Need-count-requires
-count-requires c κs =
+add-count : tie.Need-add-count
+add-count c =
     let at-size = c .before in
     let at-answer = at-size .before .before in
     let start = at-answer .before .before .before .before in
@@ -29,7 +29,8 @@ count-requires c κs =
     let t =
     granted (a .feed .link) n (a .usec) (length (a .scratch .now)) (length (a .out .now)) (at-size .size .given .0 .0)
     (sym (ap capturedSays (at-size .size .given .1)) ∙ at-answer .answer .ensures) in
-    (t .least, t .most, t .few)
+    let few = t .few in
+    search needs
 
 sub-blocks : tie.Need-sub-blocks
 sub-blocks c =
@@ -124,7 +125,7 @@ put-all-requires c κs =
     let pl : length (take k (drop 20 (at-datagram .datagram .last .1 .1 .0))) ≡ 8 + n =
     ap (λ (l : List ℕ). length (take k (drop 20 l))) (at-datagram .datagram .ensures)
     ∙ ap length (payload-lent (a .feed) (a .bytes .now) (a .scratch .now) k (omega arith)) ∙ payload-length (a .feed) (a .bytes .now) in
-    let w = begins-within (8 + n) (a .feed .link) (t .least) in
+    let w = begins-within (8 + n) (a .feed .link) in
     record {
       few = omega (arith, pl, t .few);
       some = omega (arith, t .least);
@@ -188,7 +189,9 @@ frame-spec =
     (λ c κs. search needs)
     (λ c. search needs)
     (λ c. search needs)
-    count-requires
+    add-count
+    (λ c. search needs)
+    (λ c κs. search needs)
     sub-blocks
     cast-blocks
     datagram-requires

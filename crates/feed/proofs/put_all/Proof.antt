@@ -10,6 +10,7 @@ use Rattle.pkt.proofs.Parts.{mid-length}
 use Rattle.ezpkt.specs.Build.{packetOf}
 use Rattle.ezpkt.specs.Ip4.{fragmentOf}
 use Rattle.pcap.specs.Pcap.{recordBytes}
+use Rattle.planner.proofs.Counting.{length-most}
 use Rattle.feed.specs.Steps.{recordLong, recordsFrom}
 use Rattle.pkt.proofs.Written.{put-behind}
 use Rattle.feed.proofs.Recording.{Turn, turnSize, turn-room, turn-next, records-step, records-none, record-long, written-on, none-behind, behind-length, as-small, turn-as}
@@ -29,6 +30,17 @@ loop-holds : tie.Need-loop-holds Inv-loop μ-loop
 loop-holds c =
     let start = c .before .before in
     (refl, omega arith, λ h. record { within = omega (arith, start .pre .within); room = omega (arith, start .pre .has-room, start .pre .some-piece) }, refl)
+
+cast-len : tie.Need-cast-len Inv-loop μ-loop
+cast-len c =
+    let at-loop = c .before .before in
+    let start = at-loop .before .before .before in
+    let a = start .args in
+    let few = start .pre .few in
+    let most = start .pre .most in
+    let is = c .length-at .ensures in
+    let small = length-most (a .blocks) (at-loop .loop .left - 1) (at-loop .loop .off) (length (a .payload .now)) 8190 (omega arith) (omega arith) in
+    search needs
 
 put-requires : tie.Need-put-requires Inv-loop μ-loop
 put-requires c κs =
@@ -119,6 +131,7 @@ put-all-spec =
     loop-holds
     (λ c. search needs)
     (λ c κs. search needs)
+    cast-len
     (λ c. search needs)
     (λ c. search needs)
     (λ c. search needs)

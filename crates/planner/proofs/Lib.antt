@@ -1,0 +1,12 @@
+pub mod Counting
+pub mod Places
+pub mod Onward
+pub mod Checks
+pub mod Making
+pub mod Fewest
+pub mod Planning
+pub mod Computed
+pub mod Steps
+pub mod Checking
+pub mod Firsts
+pub mod Only

@@ -1,0 +1,5 @@
+pub mod Plan
+pub mod Cutting
+pub mod Steps
+pub mod Answers
+pub mod Planning
