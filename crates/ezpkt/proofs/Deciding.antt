@@ -1,6 +1,5 @@
 -- Laws of the decision before a packet is written: what an answer tells of sizes and bounds.
-use mathlib.Core.Path.{_≡_, ap, _∙_}
-use mathlib.Core.Bool.{Bool, cond}
+use mathlib.Core.Path.{_≡_}
 use Prim.Native.Nat.{ℕ, _+_, _%_, _≤_}
 use native.Mathlib.Omega.{arith}
 use lib.ListN.{length}
@@ -10,24 +9,13 @@ use Rattle.ezpkt.specs.Ip4.{fragmentOf, tailOf}
 use Rattle.ezpkt.specs.declared.ip4.Template.{Template}
 use Rattle.ezpkt.specs.declared.build.Built.{Built}
 use borrow.Author.Tests.{le-ltb, lt-ltb}
-use Rattle.pkt.specs.Answers.{refused, gives, sumSays, unlessLong, mostUdp, mostIp, mostOffset}
+use Rattle.pkt.specs.Answers.{gives, mostUdp, mostIp, mostOffset}
 use Rattle.pkt.proofs.Deciding.{bounded}
-use Rattle.pkt.specs.declared.ipv4.Sum.{Sum}
-use Rattle.pkt.specs.declared.ipv4.Sum.the-variants.{Is, Refused}
-use Rattle.ezpkt.specs.Answers.{summed}
 use Rattle.ezpkt.specs.Build.{fragmentSize, sizedAnswer, fragmentAnswer, answerOf, sizeOf, Answered}
 use Rattle.ezpkt.specs.declared.build.IpPiece.{IpPiece}
 use Rattle.ezpkt.specs.declared.build.UdpDatagram.{UdpDatagram}
 use Rattle.ezpkt.specs.declared.build.Request.{Request}
 use Rattle.ezpkt.specs.declared.build.Request.the-variants.{Tcp, Udp, Echo, Piece}
-
--- A checksum of few enough bytes is not refused.
-pub summed-is : (s : Sum) (most n c : ℕ) → sumSays s ≡ unlessLong most n c → n ≤ most → summed s ≡ c
-summed-is s most n c e h = go s (e ∙ ap (λ (b : Bool). cond b (refused 1) (gives c)) (le-ltb most n h))
-  where
-    go : (s : Sum) → sumSays s ≡ gives c → summed s ≡ c
-    go (Is x) q = cc
-    go (Refused x) q = let z : _≡_ {A = ℕ} 0 1 = cc in absurd (omega arith)
 
 pub record Fits (most size n room k : ℕ) : Type 0 where
   pub few : n ≤ most

@@ -1,16 +1,9 @@
 -- What the answers of building say, in document 01's terms.
 use Prim.Native.Nat.{ℕ}
 use Rattle.pkt.specs.Answers.{Answer, refused, gives}
-use Rattle.pkt.specs.declared.ipv4.Sum.{Sum}
-use Rattle.pkt.specs.declared.ipv4.Sum.the-variants as sum
 use Rattle.ezpkt.specs.declared.build.Built.{Built}
 use Rattle.ezpkt.specs.declared.build.Built.the-variants.{Packet, Refused}
 
 abbrev pub builtSays : Built → Answer ℕ
 builtSays (Packet n) = gives n
 builtSays (Refused n) = refused n
-
--- the number of a checksum that was not refused
-abbrev pub summed : Sum → ℕ
-summed (sum.Is c) = c
-summed (sum.Refused n) = 0

@@ -15,9 +15,8 @@ ghost use mathlib.Core.List.{_++_};
 ghost use Prim.Native.Nat.{_+_, _≤_, min};
 ghost use lib.ListN.{length};
 ghost use Rattle.pkt.specs.Written.{written};
-ghost use Rattle.pkt.specs.Answers.{gives, mostTcp, mostUdp, mostIp};
+ghost use Rattle.pkt.specs.Answers.{gives, summed, mostTcp, mostUdp, mostIp};
 ghost use Rattle.pkt.specs.Rfc791.{ipHeader};
-ghost use Rattle.ezpkt.specs.Answers.{summed};
 ghost use Rattle.ezpkt.specs.Build.{flowIp, udpHdr, udpField, echoType, startAt, endAt, pieceFlags, pieceIp, flagBit, tcpPacket, udpPacket, echoPacket, piecePacket, packetOf, answerOf, sizeOf};
 ghost use Rattle.ezpkt.specs.declared.build.Request.the-variants.{Piece};
 

@@ -1,4 +1,3 @@
-pub mod Again
 pub mod Answering
 pub mod OneByOne
 pub mod Only

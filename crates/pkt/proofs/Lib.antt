@@ -1,3 +1,4 @@
+pub mod Again
 pub mod Bytes
 pub mod Checksum
 pub mod Choice

@@ -47,6 +47,11 @@ abbrev pub sumSays : Sum → Answer ℕ
 sumSays (Is c) = gives c
 sumSays (Refused n) = refused n
 
+-- the number of a checksum that was not refused
+abbrev pub summed : Sum → ℕ
+summed (Is c) = c
+summed (Refused n) = 0
+
 -- Number 1: "payload above 65,495 (TCP), 65,507 (UDP, ICMP), 65,515 (IPv4 payload); more than 65,535 bytes to sum or to put in one
 -- capture record"
 abbrev pub mostTcp : ℕ

@@ -18,7 +18,8 @@ use Rattle.planner.specs.declared.Job.{Job}
 use Rattle.planner.specs.Cutting.{blocksIn, pieceCount, lengthAt, requestsFrom, planned}
 use Rattle.planner.proofs.Counting.{count-one, begins-within}
 use Rattle.planner.specs.Steps.{nthOf, firsts}
-use Rattle.planner.specs.Answers.{canPlan, planAnswer, countFor, over, listAfter, Decided}
+use Rattle.planner.specs.Answers.{canPlan, planAnswer, countFor, listAfter, Decided}
+use Rattle.pkt.specs.Written.{over}
 
 -- ---- a list that is written from its front, one element after the other
 module _ {A : Type 0} where

@@ -2,10 +2,11 @@
 use Prim.Native.Nat.{ℕ, _-_, _%_}
 use mathlib.Core.Path.{_≡_}
 use mathlib.Core.Bool.{Bool, true, false, not, _&&_, _||_, cond}
-use mathlib.Core.List.{List, _++_}
-use lib.ListN.{length, drop}
+use mathlib.Core.List.{List}
+use lib.ListN.{length}
 use lib.Dec.{ltb, leb}
 use Rattle.pkt.specs.Answers.{Answer, refused, gives, mostIp}
+use Rattle.pkt.specs.Written.{over}
 use Rattle.pieces.specs.declared.BlockRequest.{BlockRequest}
 use Rattle.planner.specs.declared.Judged.{Judged}
 use Rattle.planner.specs.declared.Judged.the-variants as judged
@@ -52,10 +53,7 @@ abbrev pub Decided : ℕ → ℕ → ℕ → Job → Type 0
 Decided n m places j =
     (plannedSays (j .answer) ≡ planAnswer n m places) × (j .count ≡ countFor (planAnswer n m places)) × (j .n ≡ n) × (j .blocks ≡ blocksIn m % 65536)
 
--- the requests rs over the front of a list, "other places keep their contents"
-abbrev pub over : {A : Type 0} → List A → List A → List A
-over rs l = rs ++ drop (length rs) l
-
+-- the requests rs over the front of the list, or on a refusal what it held
 abbrev pub listAfter : Answer ℕ → List BlockRequest → List BlockRequest → List BlockRequest
 listAfter (gives k) rs l = over rs l
 listAfter (refused n) rs l = l

@@ -60,7 +60,7 @@ use Rattle.pieces.specs.declared.Pieces.{Pieces}
 use Rattle.pieces.specs.Fragments.{piecesSays, sumOf, fragmentsAnswer, Fragmented}
 use Rattle.pieces.specs.OneByOne.{noRequest}
 use Rattle.pieces.specs.Survey.{foundNone, foundIn, foundAnswer, countBy, PutAsks, Put}
-use Rattle.pieces.proofs.Again.{LentAgain, lends-again, comes-back}
+use Rattle.pkt.proofs.Again.{LentAgain, lends-again, comes-back}
 use Rattle.pieces.proofs.Surveyed.{surveyed}
 use Rattle.pieces.proofs.Turns as turns
 use Rattle.pieces.proofs.Walking.{valsR, valR, byte-fits, next-fits, index-fits, le-next, falls, not-below}

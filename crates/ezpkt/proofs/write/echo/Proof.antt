@@ -3,7 +3,7 @@ use Rattle.pkt.specs.declared.ipv4.«icmp_echo_hdr».{«icmp_echo_hdr»}
 use Rattle.pkt.specs.declared.ipv4.«icmp_hdr».{«icmp_hdr»}
 use Rattle.pkt.specs.Rfc792.{echoHeader, echoChecksum, icmpNew, echoNew}
 use Rattle.ezpkt.specs.Build.{echoPacket, echoType}
-use Rattle.ezpkt.proofs.Deciding.{summed-is}
+use Rattle.pkt.proofs.Deciding.{summed-is}
 use Rattle.pkt.specs.Written.{written}
 use lib.ListN.{length}
 use mathlib.Core.List.{List, _++_}

@@ -1,7 +1,7 @@
 -- The checksum was not refused, and the three parts stand end to end.
 use Rattle.pkt.specs.Rfc9293.{tcpHeader}
 use Rattle.ezpkt.specs.Build.{tcpPacket}
-use Rattle.ezpkt.proofs.Deciding.{summed-is}
+use Rattle.pkt.proofs.Deciding.{summed-is}
 use Rattle.pkt.specs.Written.{written}
 use lib.ListN.{length}
 use mathlib.Core.List.{List, _++_}

@@ -1,5 +1,5 @@
 -- A checksum that is asked for was not refused.
-use Rattle.ezpkt.proofs.Deciding.{summed-is}
+use Rattle.pkt.proofs.Deciding.{summed-is}
 use lib.ListN.{length}
 use mathlib.Core.Path.{refl, sym, _∙_}
 use borrow.Author.Needs.{needs}

@@ -43,7 +43,7 @@ use Rattle.ezpkt.specs.declared.ip4.Template.{Template}
 use Rattle.pieces.specs.declared.BlockRequest.{BlockRequest}
 use Rattle.pieces.specs.declared.Pieces.{Pieces}
 use Rattle.pieces.specs.Fragments.{piecesSays, Fragmented}
-use Rattle.pieces.proofs.Again.{LentAgain, lends-again, comes-back}
+use Rattle.pkt.proofs.Again.{LentAgain, lends-again, comes-back}
 use Rattle.wispbundle.specs.Answers.{listedFor}
 use Rattle.wispbundle.specs.Calls.{Cuts}
 use Rattle.wispbundle.specs.declared.building.«wb_listed».{«wb_listed»}
