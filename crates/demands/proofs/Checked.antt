@@ -1,6 +1,6 @@
 -- What the check answers of the packets that are built.
 use mathlib.Core.Path.{_≡_, refl, sym, ap, ap₂, _∙_}
-use mathlib.Core.Bool.{Bool, true, false, not, _||_, cond}
+use mathlib.Core.Bool.{Bool, true, false, not, cond}
 use Prim.Native.Nat.{ℕ, _+_, _-_, _≤_, _<_}
 use native.Mathlib.Omega.{arith}
 use mathlib.Core.List.{List, _++_, append-assoc}
@@ -20,7 +20,7 @@ use Rattle.pkt.specs.declared.ipv4.«icmp_echo_hdr».{«icmp_echo_hdr»}
 use Rattle.pkt.specs.Fields.{Bytes}
 use Rattle.pkt.proofs.Choice.{or-no}
 use Rattle.pkt.proofs.Headers.{tcp-length, udp-length, echo-length}
-use Rattle.ezpkt.specs.Build.{flowIp, tcpHdr, tcpPacket, udpHdr, udpField, udpPacket, echoType, echoPacket, startOf, endOf, moreFollow, pieceIp, piecePacket, packetOf, answerOf}
+use Rattle.ezpkt.specs.Build.{flowIp, tcpHdr, tcpPacket, udpHdr, udpField, udpPacket, echoType, echoPacket, startOf, endOf, moreFollow, pieceIp, pieceSize, piecePacket, packetOf, answerOf}
 use Rattle.ezpkt.specs.declared.build.TcpSegment.{TcpSegment}
 use Rattle.ezpkt.specs.declared.build.UdpDatagram.{UdpDatagram}
 use Rattle.ezpkt.specs.declared.build.IcmpEcho.{IcmpEcho}
@@ -29,7 +29,7 @@ use Rattle.ezpkt.specs.declared.build.Request.{Request}
 use Rattle.ezpkt.specs.declared.build.Request.the-variants.{Tcp, Udp, Echo, Piece}
 use Rattle.ezpkt.proofs.Deciding.{sized-fits, piece-fits}
 use Rattle.inspect.specs.Answers.{Verdict, good}
-use Rattle.inspect.specs.Check.{isPiece, partAnswer, checkAnswer}
+use Rattle.inspect.specs.Check.{ofMany, isPiece, partAnswer, checkAnswer}
 use Rattle.inspect.specs.Encoded.{readOf}
 use Rattle.inspect.proofs.Decoding.{check-encoded, Fit}
 use Rattle.inspect.proofs.Sent.{piece-refused, tcp-good, udp-good, udp-bare, echo-good}
@@ -49,7 +49,7 @@ judged h d r v fit e whole =
     go true q = piece-refused (readOf h) d q
     go false q = whole q
 
-flow-fit : (p size frag s d : ℕ) → p < 256 → size < 65536 → frag < 65536 → Between s d → Fit (flowIp p size frag s d)
+pub flow-fit : (p size frag s d : ℕ) → p < 256 → size < 65536 → frag < 65536 → Between s d → Fit (flowIp p size frag s d)
 flow-fit p size frag s d hp hn hf hb =
     record {
       tos = omega arith;
@@ -105,28 +105,23 @@ echo-checked e p r range bp few =
 -- ---- pieces
 
 module _ (q : IpPiece) (p : List ℕ) where
-  -- a piece from start up to end, judged
-  pieced : ℕ → ℕ → Bool → Answer Verdict
-  pieced start end m = partAnswer (readOf (pieceIp q (20 + (end - start)) m)) (slice start end p)
-
-  -- One that is no piece is the whole datagram.
-  whole-piece : moreFollow q (length p) || not (eqb (q .off) 0) ≡ false
-      → pieced (startOf q (length p)) (endOf q (length p)) (moreFollow q (length p)) ≡ partAnswer (readOf (pieceIp q (20 + length p) false)) p
-  unfolding pieced
-  whole-piece e =
+  -- One that is no piece is the whole datagram, whatever is made of its size, its MF and its bytes.
+  pub whole-piece : {A : Type 0} (f : ℕ → Bool → List ℕ → A) → ofMany (moreFollow q (length p)) (q .off) ≡ false
+      → f (pieceSize q (length p)) (moreFollow q (length p)) (slice (startOf q (length p)) (endOf q (length p)) p) ≡ f (20 + length p) false p
+  whole-piece f e =
       let w = or-no (moreFollow q (length p)) (not (eqb (q .off) 0)) e in
       let at-end : endOf q (length p) ≡ length p = eqb-true (endOf q (length p)) (length p) (not-false _ (w .0)) in
       let zero-off : q .off ≡ 0 = eqb-true (q .off) 0 (not-false _ (w .1)) in
       let at-start : startOf q (length p) ≡ 0 = omega arith in
       let n : length p - 0 ≡ length p = omega arith in
-      ap (λ (k : ℕ). pieced k (endOf q (length p)) (moreFollow q (length p))) at-start
-      ∙ ap (λ (k : ℕ). pieced 0 k (moreFollow q (length p))) at-end
-      ∙ ap (λ (m : Bool). pieced 0 (length p) m) (w .0)
-      ∙ ap (λ (k : ℕ). partAnswer (readOf (pieceIp q (20 + k) false)) (take (length p) p)) n
-      ∙ ap (partAnswer (readOf (pieceIp q (20 + length p) false))) (take-length p)
+      ap (λ (k : ℕ). f (20 + (endOf q (length p) - k)) (moreFollow q (length p)) (slice k (endOf q (length p)) p)) at-start
+      ∙ ap (λ (k : ℕ). f (20 + (k - 0)) (moreFollow q (length p)) (take k p)) at-end
+      ∙ ap (λ (m : Bool). f (20 + (length p - 0)) m (take (length p) p)) (w .0)
+      ∙ ap (λ (k : ℕ). f (20 + k) false (take (length p) p)) n
+      ∙ ap (f (20 + length p) false) (take-length p)
 
   pub piece-checked : (r : List ℕ) → Fitting (q .template) → q .off ≤ 8191 → length p ≤ 65515 → checkAnswer (piecePacket q p ++ r) ≡ checkOf (Piece q) p
-  unfolding piecePacket pieced
+  unfolding piecePacket
   piece-checked r fits off few =
       let start : ℕ = startOf q (length p) in
       let end : ℕ = endOf q (length p) in
@@ -137,7 +132,7 @@ module _ (q : IpPiece) (p : List ℕ) where
       let v : Answer Verdict = partAnswer (readOf (pieceIp q (20 + length p) false)) p in
       let field = piece-read q (20 + (end - start)) m off in
       let fit = piece-fit q (20 + (end - start)) m fits off (omega arith) in
-      judged h d r v fit (omega arith) (λ whole. whole-piece (sym field ∙ whole))
+      judged h d r v fit (omega arith) (λ whole. whole-piece (λ k t l. partAnswer (readOf (pieceIp q k t)) l) (sym field ∙ whole))
       ∙ ap₂ (λ (e t : Bool). cond e (refused 18) (cond t (refused 13) v)) (piece-evil q (20 + (end - start)) m off) field
 
 -- ---- all four

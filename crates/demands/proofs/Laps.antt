@@ -49,7 +49,7 @@ module _ (f : Feed) (b s′ : List ℕ) (x : FrameFed f b s′) where
   left : Left f b (x .sec) (x .usec) (x .scratch) (x .output) (x .answered) s′ (x .output′)
   left = left-accepted f b (x .sec) (x .usec) (x .scratch) (x .output) (x .answered) s′ (x .output′) (x .call)
 
-  fits : Fitting t
+  pub fits : Fitting t
   fits =
       record {
         tos = omega arith;
@@ -63,7 +63,7 @@ module _ (f : Feed) (b s′ : List ℕ) (x : FrameFed f b s′) where
   one : OneHeader t
   one = record { fits = fits; clear = refl }
 
-  few : length d ≤ capacity
+  pub few : length d ≤ capacity
   few = omega (arith, payload-length f b, left .granted .few)
 
   cut : AllCut t d (framePackets f b)

@@ -15,3 +15,7 @@ pub mod Demands
 pub mod Tabled
 pub mod Laps
 pub mod Plans
+pub mod Sums
+pub mod Captured
+pub mod Fed
+pub mod Mending

@@ -1,13 +1,13 @@
 -- The numbers that a call can give: each decision is a chain of tests, and each test names its number.
-use mathlib.Core.Path.{_≡_, refl, sym, subst, _∙_}
+use mathlib.Core.Path.{_≡_, refl, sym, ap, subst, _∙_}
 use mathlib.Core.Bool.{Bool, true, false, not, _||_, cond, true≢false}
 use mathlib.Core.List.{List, [], _∷_}
-use Prim.Native.Nat.{ℕ, zero, suc, _+_, _*_, _<_}
+use Prim.Native.Nat.{ℕ, zero, suc, _+_, _*_, _≤_, _<_}
 use native.Mathlib.Omega.{arith}
 use lib.Dec.{ltb, eqb}
-use lib.ListN.{length, take}
+use lib.ListN.{length, take, drop, length-take, length-drop}
 use borrow.Author.Tests.{ltb-true, eq-eqb}
-use Rattle.pkt.specs.Answers.{Answer, refused, gives, andThen, mapped, ListAnswer, refusedWhole, refusedAt, unlessLong, fitting}
+use Rattle.pkt.specs.Answers.{Answer, refused, gives, andThen, mapped, ListAnswer, refusedWhole, refusedAt, givesAll, unlessLong, fitting}
 use Rattle.ezpkt.specs.Build.{sizeOf, sizedAnswer, answerOf}
 use Rattle.ezpkt.specs.Icmp4.{echoGone}
 use Rattle.tcp4.specs.Tcp4 as tcp
@@ -16,7 +16,8 @@ use Rattle.ezpkt.specs.declared.build.Request.{Request}
 use Rattle.ezpkt.specs.declared.build.Request.the-variants.{Tcp, Udp, Echo, Piece}
 use Rattle.tcp4.specs.declared.TcpFlow.{TcpFlow}
 use Rattle.pieces.specs.declared.BlockRequest.{BlockRequest}
-use Rattle.inspect.specs.Answers.{whole, good}
+use Rattle.inspect.specs.Answers.{good}
+use Rattle.inspect.specs.Answers as inspect
 use Rattle.inspect.specs.Header.{fieldAt, headerOf, frameAnswer, summed, unreserved, readAnswer, dataOf}
 use Rattle.inspect.specs.Check.{isPiece, isOther, tcpCut, isCut, wholeAnswer, verifiesBehindPseudo, verdictOf, checkAnswer, examineAnswer}
 use Rattle.inspect.specs.declared.header.IpRead.{IpRead}
@@ -39,7 +40,15 @@ use Rattle.packet.specs.declared.Packet.{Packet}
 use Rattle.planner.specs.Cutting.{pieceCount}
 use Rattle.planner.specs.Answers.{canPlan, planAnswer}
 use Rattle.feed.specs.Feed.{badLink, frameSize, feedAnswer, writtenFor}
+use Rattle.pcap.specs.Pcap.{fileHeader}
 use Rattle.pcap.specs.Answers.{recordAnswer}
+use Rattle.pcap.specs.Read.{Records, whole, brokenAfter, inFront, recordAt, recordSize, isBroken, recordsIn, recordsOf}
+use Rattle.pcap.proofs.Pcap.{file-header-length}
+use Rattle.reading.specs.Reading.{startsWith, headerSize, ended, found, spotAt, stepAt}
+use Rattle.reading.specs.Ends.{allOf}
+use Rattle.reading.proofs.Stepping.{steps-read}
+use Rattle.mending.specs.Mend.{changes, roomAnswer, andThenAll, mendAnswer}
+use Rattle.mending.proofs.Records.{wholeOf}
 use Rattle.demands.specs.Numbers.{isIn, Among, number, accepted, AmongList, number-whole, number-at, accepted-all, buildNumbers, Numbered}
 use Rattle.pkt.specs.Rfc1071.{verifies}
 
@@ -159,7 +168,7 @@ examine-in : (l : List ℕ) → Among (4 ∷ 5 ∷ 6 ∷ 18 ∷ 13 ∷ 12 ∷ 14
 unfolding examineAnswer
 examine-in l =
     then-in _ (andThen (frameAnswer l) unreserved) _ (clear-in _ refl refl refl refl (frameAnswer l) (frame-in _ refl refl refl l))
-    (λ h. let d : List ℕ = dataOf h l in mapped-in _ (whole h) (wholeAnswer h d) (whole-in _ refl refl refl h d))
+    (λ h. let d : List ℕ = dataOf h l in mapped-in _ (inspect.whole h) (wholeAnswer h d) (whole-in _ refl refl refl h d))
 
 -- ---- assembling
 
@@ -259,6 +268,49 @@ feed-in m n usec scratch out =
     (refusing _ (badLink m) 24 _ refl
     (refusing _ (ltb 999999 usec) 17 _ refl (refusing _ (ltb scratch (28 + n) || ltb out (frameSize m n)) 3 _ refl (accepted _))))
 
+-- ---- reading and mending a capture
+
+-- a step behind k records
+step-in : (l : List ℕ) (at k : ℕ) → AmongList (23 ∷ []) (25 ∷ []) (suc k) (stepAt l at k)
+step-in l at k = refusing-whole _ _ _ (ltb at headerSize) 23 _ refl (go (eqb (length (drop at l)) 0) (isBroken (drop at l)))
+  where
+    go : (e b : Bool) → AmongList (23 ∷ []) (25 ∷ []) (suc k) (cond e (givesAll ended) (cond b (refusedAt 25 k) (givesAll (found (spotAt l at k)))))
+    go true b = accepted-all ended
+    go false true = number-at 25 k refl (omega arith)
+    go false false = accepted-all _
+
+-- No more records are read than are looked for.
+records-few : (most : ℕ) (l : List ℕ) → length (wholeOf (recordsIn most l)) ≤ most
+unfolding recordsIn wholeOf
+records-few zero l = omega arith
+records-few (suc most) l = go (eqb (length l) 0) (isBroken l) (recordsIn most (drop (recordSize l) l)) (records-few most (drop (recordSize l) l))
+  where
+    go : (e b : Bool) (w : Records) → length (wholeOf w) ≤ most
+        → length (wholeOf (cond e (whole []) (cond b (brokenAfter []) (inFront (recordAt l) w)))) ≤ suc most
+    go true b w h = omega arith
+    go false true w h = omega arith
+    go false false (whole rs) h = omega arith
+    go false false (brokenAfter rs) h = omega arith
+
+-- Behind the 24 bytes of the header one record more is looked for than there are bytes: fewer than the capture has.
+mended-in : (l : List ℕ) (room places : ℕ) → AmongList (23 ∷ 3 ∷ []) (25 ∷ []) (length l) (mendAnswer l room places)
+unfolding wholeOf
+mended-in l room places = go (startsWith fileHeader l) refl
+  where
+    read : (w : Records) → length (wholeOf w) < length l
+        → AmongList (23 ∷ 3 ∷ []) (25 ∷ []) (length l) (andThenAll (allOf w) (roomAnswer (length l) (length (changes l)) room places))
+    read (whole rs) h = refusing-whole _ _ _ (ltb room (length l) || ltb places (length (changes l))) 3 _ refl (accepted-all _)
+    read (brokenAfter rs) h = number-at 25 (length rs) refl h
+
+    go : (t : Bool) → startsWith fileHeader l ≡ t
+        → AmongList (23 ∷ 3 ∷ []) (25 ∷ []) (length l)
+        (andThenAll (cond t (allOf (recordsOf (drop headerSize l))) (refusedWhole 23)) (roomAnswer (length l) (length (changes l)) room places))
+    go true e =
+        let first : length (take headerSize l) ≡ 24 = ap length (steps-read .opens l e) ∙ file-header-length in
+        let few = records-few (suc (length (drop headerSize l))) (drop headerSize l) in
+        read (recordsOf (drop headerSize l)) (omega (arith, length-take headerSize l, length-drop headerSize l))
+    go false e = number-whole 23 refl
+
 pub copy-in : (ok : Bool) (k room : ℕ) → Among (16 ∷ 3 ∷ []) (copyAnswer ok k room)
 copy-in ok k room = unless _ ok 16 _ refl (refusing _ (ltb room k) 3 _ refl (accepted k))
 
@@ -300,6 +352,8 @@ numbered =
       recording = λ n usec room r e. told _ _ _ e (record-in n usec room);
       capturing = λ sec usec d o r o′ x. told _ _ _ (x .answer) (record-in (length d) usec (length o));
       heading = λ o r o′ x. told _ _ _ (x .answer) (fitting-in 24 (length o));
+      stepping = λ l at k r e. subst (AmongList _ _ _) (sym e) (step-in l at k);
+      mending = λ l o e r o′ e′ x. subst (AmongList _ _ _) (sym (x .answer)) (mended-in l (length o) (length e));
       judging = λ n b r e. told _ _ _ e (refusing _ (ltb 65515 n) 1 _ refl (accepted b));
       deciding = λ n m places j x. told _ _ _ (x .0) (plan-in n m places);
       planning = λ n m l r l′ x. told _ _ _ (x .answer) (plan-in n m (length l));

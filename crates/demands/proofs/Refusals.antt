@@ -4,13 +4,14 @@ use mathlib.Core.List.{List}
 use Prim.Native.Nat.{ℕ}
 use native.Mathlib.Omega.{arith}
 use lib.ListN.{length}
-use Rattle.pkt.specs.Answers.{Answer, refused, gives, mapped, plainly}
+use Rattle.pkt.specs.Answers.{Answer, refused, gives, mapped, ListAnswer, refusedWhole, refusedAt, plainly}
 use Rattle.pkt.specs.Written.{leaves}
 use Rattle.ezpkt.specs.Build.{answerOf, packetOf, udpPacket}
 use Rattle.pcap.specs.Pcap.{recordsBytes}
 use Rattle.planner.specs.Cutting.{planned}
 use Rattle.planner.specs.Answers.{listAfter}
 use Rattle.feed.specs.Feed.{frameDgram, frameRecords, feedAnswer, writtenFor}
+use Rattle.mending.specs.Mend.{mend, changes, Counts, rowsAfter}
 use Rattle.ezpkt.specs.Icmp4.{echoGone}
 use Rattle.packet.proofs.Answers.{kept}
 use Rattle.assembly.specs.Assembly.{State, outcome}
@@ -42,6 +43,14 @@ both-left : (a : Answer ℕ) (n : ℕ) (k l o e o′ e′ : List ℕ) → refuse
     → (o′ ≡ o) × (e′ ≡ e)
 both-left a n k l o e o′ e′ r q =
     (left a n k o o′ r (ap (λ (b : List ℕ × List ℕ). b .0) q), left a n l e e′ r (ap (λ (b : List ℕ × List ℕ). b .1) q))
+
+-- what it leaves of an output and a list of rows
+rows-left : (a b : ListAnswer Counts) (k o o′ : List ℕ) (rs e e′ : List (List ℕ)) → b ≡ a
+    → _≡_ {A = List ℕ × List (List ℕ)} (o′, e′) (leaves (plainly a) k o, rowsAfter a rs e) → (o′ ≡ leaves (plainly b) k o) × (e′ ≡ rowsAfter b rs e)
+rows-left a b k o o′ rs e e′ is q = (
+  ap (λ (x : List ℕ × List (List ℕ)). x .0) q ∙ ap (λ (c : ListAnswer Counts). leaves (plainly c) k o) (sym is),
+  ap (λ (x : List ℕ × List (List ℕ)). x .1) q ∙ ap (λ (c : ListAnswer Counts). rowsAfter c rs e) (sym is),
+)
 
 -- what it leaves of a table and its buffers, where an answer gives a slot with its state, or a slot to be emptied
 placing-left : (a : Answer Placing) (n : ℕ) (t t′ : List Slot) (d m d′ m′ : List ℕ) → refused n ≡ a → t′ ≡ slotsAfter a t → d′ ≡ payloadsAfter a d → m′ ≡ mapsAfter a m
@@ -111,5 +120,7 @@ refused-keep =
           let a = feedAnswer (f .link) (length b) usec (length s) (length o) in
           let e = mapped-refused (writtenFor f (length b)) a n (x .answer) in
           (left a n (udpPacket (frameDgram f) b) s s′ e (x .scratch-is), left a n (recordsBytes (frameRecords f b sec usec)) o o′ e (x .output-is));
+      mending = λ l o o′ e e′ n x. rows-left _ (refusedWhole n) (mend l) o o′ (changes l) e e′ (x .answer) (x .after);
+      mending-at = λ l o o′ e e′ n k x. rows-left _ (refusedAt n k) (mend l) o o′ (changes l) e e′ (x .answer) (x .after);
       capturing = λ a b o o′ n x. left a n b o o′ (x .answer) (x .after);
     }

@@ -15,3 +15,4 @@ pub mod Listing
 pub mod Tabled
 pub mod Laps
 pub mod Plans
+pub mod Mending

@@ -2,7 +2,7 @@
 use mathlib.Core.Path.{_≡_}
 use mathlib.Core.Bool.{Bool, true, false, _||_}
 use mathlib.Core.List.{List, [], _∷_}
-use Prim.Native.Nat.{ℕ, _<_}
+use Prim.Native.Nat.{ℕ, suc, _<_}
 use lib.Dec.{eqb}
 use lib.ListN.{length}
 use Rattle.pkt.specs.Answers.{Answer, refused, gives, ListAnswer, refusedWhole, refusedAt, givesAll, unlessLong, sumSays}
@@ -60,6 +60,10 @@ use Rattle.planner.specs.declared.Planned.{Planned}
 use Rattle.feed.specs.Feed.{fedSays, Feeds}
 use Rattle.feed.specs.declared.Feed.{Feed}
 use Rattle.feed.specs.declared.Fed.{Fed}
+use Rattle.reading.specs.Reading.{stepSays, stepAt}
+use Rattle.reading.specs.declared.Step.{Step}
+use Rattle.mending.specs.Mend.{mendedSays, Mends}
+use Rattle.mending.specs.declared.Mended.{Mended}
 use Rattle.pcap.specs.Answers.{capturedSays, recordAnswer, HeaderWritten, RecordWritten}
 use Rattle.pcap.specs.declared.Captured.{Captured}
 
@@ -135,6 +139,10 @@ pub record Numbered : Type 0 where
   pub capturing : (sec usec : ℕ) (d o : List ℕ) (r : Captured) (o′ : List ℕ) → RecordWritten sec usec d o r o′ → Among (1 ∷ 17 ∷ 3 ∷ []) (capturedSays r)
   -- `write_header`
   pub heading : (o : List ℕ) (r : Captured) (o′ : List ℕ) → HeaderWritten o r o′ → Among (3 ∷ []) (capturedSays r)
+  -- Document 02, T-08, "23 .., 25 with the record number .., then 3": a reader's `here`, behind k records, and `mend`
+  pub stepping : (l : List ℕ) (at k : ℕ) (r : Step) → stepSays r ≡ stepAt l at k → AmongList (23 ∷ []) (25 ∷ []) (suc k) (stepSays r)
+  pub mending : (l o : List ℕ) (e : List (List ℕ)) (r : Mended) (o′ : List ℕ) (e′ : List (List ℕ)) → Mends l o e r o′ e′
+      → AmongList (23 ∷ 3 ∷ []) (25 ∷ []) (length l) (mendedSays r)
   -- Document 02, T-07, "The check .. refuses with 1. Refusals of the planner: 1, then 21 .., then 3": `is_plan` and `judge`, `decide`, `plan`
   pub judging : (n : ℕ) (b : Bool) (r : Judged) → judgedSays r ≡ judgeAnswer n b → Among (1 ∷ []) (judgedSays r)
   pub deciding : (n m places : ℕ) (j : Job) → Decided n m places j → Among (1 ∷ 21 ∷ 3 ∷ []) (plannedSays (j .answer))

@@ -39,6 +39,8 @@ use Rattle.planner.specs.declared.Planned.the-variants as planned
 use Rattle.feed.specs.Feed.{Feeds}
 use Rattle.feed.specs.declared.Feed.{Feed}
 use Rattle.feed.specs.declared.Fed.the-variants as fed
+use Rattle.mending.specs.Mend.{Mends}
+use Rattle.mending.specs.declared.Mended.the-variants as mended
 use Rattle.pkt.specs.Written.{Wrote}
 use Rattle.pcap.specs.Answers.{capturedSays}
 use Rattle.pcap.specs.declared.Captured.the-variants as captured
@@ -86,5 +88,9 @@ pub record RefusedKeep : Type 0 where
   pub planning : (n m : ℕ) (l l′ : List BlockRequest) (k : ℕ) → Plans n m l (planned.Refused k) l′ → l′ ≡ l
   -- a feed's `frame`: the scratch buffer and the output ("A refused frame uses no identification and writes nothing"; its feed stays the caller's)
   pub feeding : (f : Feed) (b : List ℕ) (sec usec : ℕ) (s o s′ o′ : List ℕ) (n : ℕ) → Feeds f b sec usec s o (fed.Refused n) s′ o′ → (s′ ≡ s) × (o′ ≡ o)
+  -- `mend`: the second buffer and the list, where the whole capture is refused by a number,
+  pub mending : (l o o′ : List ℕ) (e e′ : List (List ℕ)) (n : ℕ) → Mends l o e (mended.Refused n) o′ e′ → (o′ ≡ o) × (e′ ≡ e)
+  -- and where the number comes with that of a record
+  pub mending-at : (l o o′ : List ℕ) (e e′ : List (List ℕ)) (n k : ℕ) → Mends l o e (mended.RefusedAt n k) o′ e′ → (o′ ≡ o) × (e′ ≡ e)
   -- `write_header`, `write_record`: the output
   pub capturing : (a : Answer ℕ) (b o o′ : List ℕ) (n : ℕ) → Wrote capturedSays a b o (captured.Refused n) o′ → o′ ≡ o

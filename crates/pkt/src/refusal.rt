@@ -42,7 +42,11 @@ pub const FULL: u8 = 19;
 pub const TOO_FAR_FOR_SLOT: u8 = 20;
 // There is no cutting plan for so many bytes and such a link.
 pub const NO_PLAN: u8 = 21;
+// A capture does not start with document 01's file header.
+pub const NOT_CAPTURE: u8 = 23;
 // A link size below 28 or above 65,535.
 pub const BAD_LINK: u8 = 24;
+// A record of a capture is cut short, or above 65,535 bytes.
+pub const BROKEN: u8 = 25;
 // A table of assemblies has no assembly for the key, or none that is complete.
 pub const NO_DATAGRAM: u8 = 27;

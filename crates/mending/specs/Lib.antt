@@ -1,0 +1,5 @@
+pub mod Sums
+pub mod Packets
+pub mod Mend
+pub mod Pass
+pub mod Captures
