@@ -85,8 +85,11 @@ fn refused() {
 fn cut() {
     show_with(b"with a first byte of 0x46", 0, b"\x46");
     show_with(b"with a total length of 19", 2, b"\x00\x13");
-    show_with(b"with a total length of 31", 2, b"\x00\x1f");
     show_with(b"with a UDP length of 9", 24, b"\x00\x09");
+    show(
+        b"a total length above the bytes",
+        b"\x45\x00\x00\x1d\x00\x00\x00\x00\x40\x01\xde\xad\x0a\x00\x00\x01\x0a\x00\x00\x02\x08\x00\x12\x34\x00\x00\x00\x00",
+    );
     show(b"a record of no bytes", b"");
 }
 
