@@ -158,7 +158,7 @@ FILENAME ~ /\.rt$/ {
     next
 }
 
-FILENAME ~ /vectors\/stdout$/ { if (/ cases, /) cases = $1; else kinds++; next }
+FILENAME ~ /vectors\/stdout$/ { if (/ cases, /) cases = $1; else if ($1 ~ /^[0-9a-f][0-9a-f]$/) kinds++; next }
 
 # ---- the page
 

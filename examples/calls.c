@@ -51,8 +51,9 @@ static void status(uint8_t number)
         [WB_BAD_PART] = "bad part",
         [WB_BAD_TIME] = "bad time",
         [WB_RESERVED] = "reserved bit",
+        [WB_NO_CHECKSUM] = "no checksum",
     };
-    printf("  %d, %s", number, number < sizeof says / sizeof *says ? says[number] : "?");
+    printf("  %d, %s", number, number < sizeof says / sizeof *says && says[number] ? says[number] : "?");
 }
 
 /* 20 bytes to a line, so that a header has its own */
@@ -219,25 +220,30 @@ static void building(void)
     wb_udp_datagram udp = {.saddr = cl.ip, .daddr = sv.ip, .sport = 1, .dport = 2, .csum = true};
     MAKE(length, wb_build_udp(udp, ebd4, 2, out, sizeof out));
     udp.frag_off = WB_EVIL | 2;
-    udp.csum = false;
     MAKE(length, wb_build_udp(udp, ebd4, 2, out, sizeof out));
+    wb_udp_datagram bare = udp;
+    bare.csum = false;
+    MAKE(length, wb_build_udp(bare, ebd4, 2, out, sizeof out));
     wb_icmp_packet echo = {.saddr = cl.ip, .daddr = sv.ip, .seq = 0x0100};
     MAKE(length, wb_build_icmp(echo, lap, 4, out, sizeof out));
     echo.reply = true;
     MAKE(length, wb_build_icmp(echo, lap, 4, out, sizeof out));
 }
 
-/* What is at its bound is refused for want of room, and what is above it, as too long. */
+/* What is at its bound is refused for want of room, and what is above it, as too long; a datagram without checksum, as
+ * such. */
 static void bounds(void)
 {
     wb_tcp_segment tcp = {.flags = WB_FIN | WB_RST | WB_URG | WB_ECE | WB_CWR, .frag_off = WB_MF};
-    wb_udp_datagram udp = {.csum = false};
+    wb_udp_datagram udp = {.csum = true}, bare = {.csum = false};
     wb_icmp_packet echo = {.reply = false};
     MAKE(length, wb_build_tcp(tcp, none, 0, out, sizeof out));
     MAKE(length, wb_build_tcp(tcp, many, WB_MOST_TCP, out, sizeof out));
     MAKE(length, wb_build_tcp(tcp, many, WB_MOST_TCP + 1, out, sizeof out));
     MAKE(length, wb_build_udp(udp, many, WB_MOST_UDP, out, sizeof out));
     MAKE(length, wb_build_udp(udp, many, WB_MOST_UDP + 1, out, sizeof out));
+    MAKE(length, wb_build_udp(bare, many, WB_MOST_UDP, out, sizeof out));
+    MAKE(length, wb_build_udp(bare, many, WB_MOST_UDP + 1, out, sizeof out));
     MAKE(length, wb_build_icmp(echo, many, WB_MOST_ICMP, out, sizeof out));
     MAKE(length, wb_build_icmp(echo, many, WB_MOST_ICMP + 1, out, sizeof out));
     MAKE(length, wb_datagram(template_, many, WB_MOST_IPV4, out, sizeof out));
@@ -316,11 +322,14 @@ static void tcp_numbers(void)
 static void udp(void)
 {
     wb_choices choices = {.other_source = true, .srcip = 0x01020304, .frag_off = 0x4000, .csum = true};
+    wb_choices own_source = {.other_source = false, .srcip = 0x01020304, .frag_off = 0x0001, .csum = true};
     wb_choices none_taken = {.other_source = false, .srcip = 0x01020304, .frag_off = 0x0001, .csum = false};
     before("wb_udp_new(cl, sv)");
     wb_udp_flow f = wb_udp_new(cl, sv);
     udp_flow(f);
     MAKE(length, wb_udp_client_dgram(f, lap, 4, choices, out, sizeof out));
+    MAKE(length, wb_udp_client_dgram(f, lap, 4, none_taken, out, sizeof out));
+    MAKE(length, wb_udp_server_dgram(f, lap, 4, own_source, out, sizeof out));
     MAKE(length, wb_udp_server_dgram(f, lap, 4, none_taken, out, sizeof out));
 }
 

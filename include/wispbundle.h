@@ -38,7 +38,7 @@ extern "C" {
 
 /* ---- the version: another number after each change of a struct or a call, also where every size stays. The header is
  * the archive's exactly if wb_version answers WB_VERSION. */
-#define WB_VERSION 5
+#define WB_VERSION 6
 
 uint32_t wb_version(void);
 
@@ -64,7 +64,8 @@ enum {
     WB_BAD_SUM = 15,        /* transport checksum does not verify */
     WB_BAD_PART = 16,       /* headroom > end, end > buffer or end > 1,048,576 */
     WB_BAD_TIME = 17,       /* microseconds above 999,999 */
-    WB_RESERVED = 18        /* the reserved bit of the IPv4 header is set */
+    WB_RESERVED = 18,       /* the reserved bit of the IPv4 header is set */
+    WB_NO_CHECKSUM = 22     /* a UDP datagram is asked for without a checksum */
 };
 
 /* ---- bounds: what is above them is refused by 1, by 2 (the offset), by 16 (the end) or by 17 (the microseconds) */
@@ -99,8 +100,8 @@ typedef struct {
 wb_sum wb_ip_csum(const uint8_t *buf, size_t buf_len);
 
 /* ---- building a packet
- * Each writes a whole packet, IPv4 header first, to the start of out, and answers its length. It refuses by 1, 3, and
- * a piece by 1, 2, 3. */
+ * Each writes a whole packet, IPv4 header first, to the start of out, and answers its length. It refuses by 1, 3, a
+ * UDP datagram by 22, 1, 3, and a piece by 1, 2, 3. */
 
 /* The bits of flags in a TCP header. */
 enum {
@@ -131,7 +132,7 @@ typedef struct {
     uint16_t frag_off;
 } wb_tcp_segment;
 
-/* Any frag_off. csum: whether the checksum is computed; else its field is 0. */
+/* Any frag_off. csum: whether a checksum is asked for. It must be: without one no datagram is built (22). */
 typedef struct {
     uint32_t saddr;
     uint32_t daddr;
@@ -294,7 +295,7 @@ wb_pushed wb_tcp_push_state(wb_tcp_flow flow, wb_seq cl_seq, wb_seq sv_seq);
 wb_tcp_flow wb_tcp_pop_state(wb_tcp_flow flow, wb_seq cl_seq, wb_seq sv_seq);
 
 /* ---- UDP flows
- * Each call writes one datagram to the start of out. It refuses by 1, 3. */
+ * Each call writes one datagram to the start of out. It refuses by 22, 1, 3. */
 
 typedef struct {
     wb_addr cl;

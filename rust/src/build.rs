@@ -1,5 +1,5 @@
 //! Building one packet. Each call writes the whole packet, IPv4 header first, to the start of `out`
-//! and answers its length. It refuses by 1, 3.
+//! and answers its length. It refuses by 1, 3, and a UDP datagram by 22, 1, 3.
 
 use crate::lend::lend;
 use crate::{Refusal, sys};
@@ -65,8 +65,8 @@ impl TcpSegment {
     }
 }
 
-/// A UDP datagram. `frag_off` is the whole 16-bit field of the IPv4 header; `csum` says whether the
-/// checksum is computed, and else its field is 0.
+/// A UDP datagram. `frag_off` is the whole 16-bit field of the IPv4 header; `csum` says whether a
+/// checksum is asked for, and without one no datagram is built: 22.
 #[derive(Copy, Clone, Debug, PartialEq, Eq)]
 pub struct UdpDatagram {
     pub src: SocketAddrV4,
@@ -76,7 +76,7 @@ pub struct UdpDatagram {
 }
 
 impl UdpDatagram {
-    /// A datagram without checksum.
+    /// A datagram for which no checksum is asked yet: until `csum` is set, it is refused.
     pub fn new(src: SocketAddrV4, dst: SocketAddrV4) -> Self {
         Self {
             src,
@@ -86,6 +86,17 @@ impl UdpDatagram {
         }
     }
 
+    /// ```
+    /// use wispbundle::{Refusal, UdpDatagram};
+    ///
+    /// let (cl, sv) = ("10.0.0.1:1".parse().unwrap(), "10.0.0.2:2".parse().unwrap());
+    /// let bare = UdpDatagram::new(cl, sv);
+    /// let mut out = [0; 30];
+    /// assert_eq!(bare.build(&[0xeb, 0xd4], &mut out), Err(Refusal::NoChecksum));
+    /// let datagram = UdpDatagram { csum: true, ..bare };
+    /// assert_eq!(datagram.build(&[0xeb, 0xd4], &mut out), Ok(30));
+    /// assert_eq!(out[26..28], [0xff, 0xff]);
+    /// ```
     pub fn build(&self, payload: &[u8], out: &mut [u8]) -> Result<usize, Refusal> {
         let datagram = sys::UdpDatagram {
             saddr: u32::from(*self.src.ip()),

@@ -6,8 +6,8 @@ use std::fmt;
 
 macro_rules! refusals {
     ($($name:ident = $number:literal: $words:literal,)+) => {
-        /// Why a call was refused, by document 01's number. Where several apply, the first in the
-        /// order of that call is given.
+        /// Why a call was refused, by the number of document 01 or 02. Where several apply, the
+        /// first in the order of that call is given.
         #[derive(Copy, Clone, Debug, PartialEq, Eq, PartialOrd, Ord, Hash)]
         #[repr(u8)]
         pub enum Refusal {
@@ -16,7 +16,7 @@ macro_rules! refusals {
 
         impl Refusal {
             /// Every refusal, by number.
-            pub const ALL: [Self; 18] = [$(Self::$name),+];
+            pub const ALL: [Self; 19] = [$(Self::$name),+];
 
             /// When it is given, in the words of documents 01 and 02.
             pub fn words(self) -> &'static str {
@@ -47,25 +47,25 @@ refusals! {
     BadPart = 16: "headroom record with headroom > end, end > buffer or end (also the new one) > 1,048,576; a part not within the packet; lowering by more than the headroom; returning from another place or more than the packet",
     BadTime = 17: "microseconds above 999,999",
     Reserved = 18: "reserved bit of the IPv4 header set",
+    NoChecksum = 22: "UDP datagram with no checksum asked for",
 }
 
 impl Refusal {
-    /// Its number in documents 01 and 02, 1 to 18.
+    /// Its number in documents 01 and 02: 1 to 18, or 22.
     pub fn number(self) -> u8 {
         self as u8
     }
 
     /// The refusal of that number, where there is one.
     pub fn of_number(number: u8) -> Option<Self> {
-        let index = usize::from(number).checked_sub(1)?;
-        Self::ALL.get(index).copied()
+        Self::ALL.into_iter().find(|r| r.number() == number)
     }
 
     /// What a status of the archive says: 0 is no refusal.
     pub(crate) fn unless_accepted(status: u8) -> Result<(), Self> {
         match status {
             0 => Ok(()),
-            n => Err(Self::of_number(n).expect("a status is proved to be at most 18")),
+            n => Err(Self::of_number(n).expect("a status is proved to be one of these")),
         }
     }
 
@@ -74,7 +74,7 @@ impl Refusal {
     }
 }
 
-/// The number and document 01's words, as in `refusal 2: piece offset above 8,191`.
+/// The number and its document's words, as in `refusal 2: piece offset above 8,191`.
 impl fmt::Display for Refusal {
     fn fmt(&self, f: &mut fmt::Formatter<'_>) -> fmt::Result {
         write!(f, "refusal {}: {}", self.number(), self.words())
@@ -93,7 +93,7 @@ pub struct ListRefusal {
 }
 
 impl ListRefusal {
-    /// Document 01's number.
+    /// Its number in documents 01 and 02.
     pub fn number(self) -> u8 {
         self.refusal.number()
     }

@@ -5,7 +5,7 @@ use crate::{Refusal, sys};
 use std::net::{Ipv4Addr, SocketAddrV4};
 
 /// Two ends. Each call writes one datagram to the start of `out` and answers its length. It refuses
-/// by 1, 3.
+/// by 22, 1, 3.
 ///
 /// ```
 /// use wispbundle::{Choices, UdpFlow};
@@ -22,8 +22,8 @@ pub struct UdpFlow {
     pub sv: SocketAddrV4,
 }
 
-/// What a datagram may have otherwise than by default: another source address, the whole 16-bit
-/// field of the IPv4 header, a computed checksum.
+/// What goes with a datagram: another source address than the flow's, the whole 16-bit field of the
+/// IPv4 header, and whether a checksum is asked for, without which no datagram is built: 22.
 #[derive(Copy, Clone, Debug, Default, PartialEq, Eq)]
 pub struct Choices {
     pub srcip: Option<Ipv4Addr>,

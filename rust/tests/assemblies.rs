@@ -4,7 +4,7 @@ mod common;
 use common::*;
 use wispbundle::{
     Assembly, Echo, Good, IcmpPacket, Key, MAP_BYTES, Outcome, PAYLOAD_BYTES, Progress, Record,
-    Refusal, Template, UdpDatagram, check,
+    Refusal, Template, check,
 };
 
 const ICMP: u8 = 1;
@@ -88,11 +88,7 @@ fn opening_refuses_other_sizes() {
 
 #[test]
 fn a_telemetry_datagram_in_all_six_orders() {
-    let udp = UdpDatagram {
-        csum: true,
-        ..UdpDatagram::new(CL, SV)
-    };
-    let packet = written(|out| udp.build(&counted(3480), out));
+    let packet = written(|out| datagram(CL, SV).build(&counted(3480), out));
     let sent = &packet[20..];
     let pieces = [0, 185, 370].map(|off| fragment(sent, off, 185));
     assert_eq!(pieces.each_ref().map(|p| p.len()), [1500, 1500, 548]);
@@ -300,10 +296,7 @@ fn ping() -> Sent {
 }
 
 fn telemetry() -> Sent {
-    let udp = UdpDatagram {
-        csum: true,
-        ..UdpDatagram::new(CL, SV)
-    };
+    let udp = datagram(CL, SV);
     sent(UDP, &written(|out| udp.build(&counted(3480), out)))
 }
 

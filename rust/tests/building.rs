@@ -50,15 +50,18 @@ fn every_field_of_a_segment() {
 #[test]
 fn a_udp_sum_of_0_is_sent_as_ffff() {
     let (a, b) = ("10.0.0.1:1".parse().unwrap(), "10.0.0.2:2".parse().unwrap());
-    let udp = UdpDatagram {
-        csum: true,
-        ..UdpDatagram::new(a, b)
-    };
-    let packet = written(|out| udp.build(&[0xeb, 0xd4], out));
+    let packet = written(|out| datagram(a, b).build(&[0xeb, 0xd4], out));
     assert_eq!((u16_at(&packet, 24), u16_at(&packet, 26)), (10, 0xffff));
-    let packet = written(|out| UdpDatagram::new(a, b).build(&[0xeb, 0xd4], out));
-    assert_eq!(u16_at(&packet, 26), 0);
-    assert_eq!(check(&packet), Ok(Good::WithoutChecksum));
+    assert_eq!(check(&packet), Ok(Good::Checked));
+}
+
+#[test]
+fn udp_without_checksum_is_refused_before_all_else() {
+    let (bare, long) = (UdpDatagram::new(CL, SV), counted(65_508));
+    for room in [0, 31, 32, LONGEST + 100] {
+        refused(room, Refusal::NoChecksum, |out| bare.build(b"lap!", out));
+        refused(room, Refusal::NoChecksum, |out| bare.build(&long, out));
+    }
 }
 
 #[test]
@@ -86,7 +89,7 @@ fn too_long_by_one() {
     refused(room, Refusal::TooLong, |out| {
         syn().build(&long[..65_496], out)
     });
-    let udp = UdpDatagram::new(CL, SV);
+    let udp = datagram(CL, SV);
     assert_eq!(
         written(|out| udp.build(&long[..65_507], out)).len(),
         LONGEST
@@ -118,7 +121,7 @@ fn no_room_by_one() {
     refused(39, Refusal::NoRoom, |out| syn().build(&[], out));
     assert_eq!(syn().build(&[], &mut [0; 40]), Ok(40));
     refused(31, Refusal::NoRoom, |out| {
-        UdpDatagram::new(CL, SV).build(b"lap!", out)
+        datagram(CL, SV).build(b"lap!", out)
     });
     refused(31, Refusal::NoRoom, |out| echo().build(b"lap!", out));
     refused(0, Refusal::NoRoom, |out| echo().build(b"", out));
@@ -129,7 +132,7 @@ fn too_long_comes_before_no_room() {
     let long = counted(65_516);
     refused(0, Refusal::TooLong, |out| syn().build(&long, out));
     refused(0, Refusal::TooLong, |out| {
-        UdpDatagram::new(CL, SV).build(&long, out)
+        datagram(CL, SV).build(&long, out)
     });
     refused(0, Refusal::TooLong, |out| echo().build(&long, out));
 }

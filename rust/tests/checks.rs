@@ -4,9 +4,9 @@ mod common;
 use common::*;
 use wispbundle::{Choices, Good, IcmpFlow, Refusal, TcpFlow, UdpFlow, check};
 
-fn udp(csum: bool) -> Vec<u8> {
+fn udp() -> Vec<u8> {
     let choices = Choices {
-        csum,
+        csum: true,
         ..Choices::default()
     };
     written(|out| UdpFlow::new(CL, SV).client_dgram(b"lap!", choices, out))
@@ -19,22 +19,28 @@ fn tcp() -> Vec<u8> {
 #[test]
 fn good_packets() {
     let echo = written(|out| IcmpFlow::new(CLIENT, SERVER).echo(b"odd", out));
-    for packet in [echo, tcp(), udp(true)] {
+    for packet in [echo, tcp(), udp()] {
         assert_eq!(check(&packet), Ok(Good::Checked));
     }
-    assert_eq!(check(&udp(false)), Ok(Good::WithoutChecksum));
+}
+
+/// No such datagram is built here; captures have them.
+#[test]
+fn a_field_of_0_is_good_without_checksum() {
+    let bare = changed(udp(), &[(26, 0), (27, 0)]);
+    assert_eq!(check(&bare), Ok(Good::WithoutChecksum));
 }
 
 #[test]
 fn bytes_behind_the_packet_do_not_count() {
-    let mut packet = udp(true);
+    let mut packet = udp();
     packet.extend([0xff; 9]);
     assert_eq!(check(&packet), Ok(Good::Checked));
 }
 
 #[test]
 fn missing_bytes_a_bad_header_and_pieces() {
-    let packet = udp(true);
+    let packet = udp();
     assert_eq!(check(&[]), Err(Refusal::Short));
     assert_eq!(check(&packet[..19]), Err(Refusal::Short));
     assert_eq!(check(&packet[..31]), Err(Refusal::Short));
@@ -57,14 +63,14 @@ fn missing_bytes_a_bad_header_and_pieces() {
 #[test]
 fn one_changed_byte() {
     for (packet, change, why) in [
-        (udp(true), (0, 0x46), Refusal::NotIpv4),
-        (udp(true), (3, 19), Refusal::BadTotal),
-        (udp(true), (9, 2), Refusal::OtherProtocol),
-        (udp(true), (3, 27), Refusal::Cut),
-        (udp(true), (25, 13), Refusal::Cut),
+        (udp(), (0, 0x46), Refusal::NotIpv4),
+        (udp(), (3, 19), Refusal::BadTotal),
+        (udp(), (9, 2), Refusal::OtherProtocol),
+        (udp(), (3, 27), Refusal::Cut),
+        (udp(), (25, 13), Refusal::Cut),
         (tcp(), (32, 0x60), Refusal::Cut),
         (tcp(), (3, 39), Refusal::Cut),
-        (udp(true), (31, 0), Refusal::BadSum),
+        (udp(), (31, 0), Refusal::BadSum),
         (tcp(), (43, 0), Refusal::BadSum),
     ] {
         assert_eq!(check(&changed(packet, &[change])), Err(why), "{change:?}");
@@ -73,11 +79,11 @@ fn one_changed_byte() {
 
 #[test]
 fn the_first_in_order_is_given() {
-    let many = changed(udp(true), &[(6, 0x20), (9, 2), (25, 13)]);
+    let many = changed(udp(), &[(6, 0x20), (9, 2), (25, 13)]);
     assert_eq!(check(&many), Err(Refusal::Piece));
-    let fewer = changed(udp(true), &[(9, 2), (25, 13)]);
+    let fewer = changed(udp(), &[(9, 2), (25, 13)]);
     assert_eq!(check(&fewer), Err(Refusal::OtherProtocol));
-    let mut short = changed(udp(true), &[(2, 1)]);
+    let mut short = changed(udp(), &[(2, 1)]);
     short[10] ^= 1;
     assert_eq!(check(&short), Err(Refusal::Short));
     short[3] = 19;

@@ -166,6 +166,13 @@ fn a_refused_call_moves_no_number() {
     assert_eq!(f, flow());
 }
 
+/// The flow's own source, and a checksum.
+const SUMMED: Choices = Choices {
+    srcip: None,
+    frag_off: 0,
+    csum: true,
+};
+
 #[test]
 fn udp_choices() {
     let flow = UdpFlow::new(CL, SV);
@@ -180,12 +187,12 @@ fn udp_choices() {
     assert_eq!(packet[12..20], [1, 2, 3, 4, 10, 0, 0, 2]);
     assert_eq!(packet[20..24], [0x9c, 0x40, 0, 80]);
     assert_eq!(check(&packet), Ok(Good::Checked));
-    let packet = written(|out| flow.server_dgram(b"lap!", Choices::default(), out));
+    let packet = written(|out| flow.server_dgram(b"lap!", SUMMED, out));
     assert_eq!(
         packet[12..24],
         [10, 0, 0, 2, 10, 0, 0, 1, 0, 80, 0x9c, 0x40]
     );
-    assert_eq!(check(&packet), Ok(Good::WithoutChecksum));
+    assert_eq!(check(&packet), Ok(Good::Checked));
 }
 
 #[test]
@@ -193,18 +200,40 @@ fn udp_refusals() {
     let (flow, long) = (UdpFlow::new(CL, SV), counted(65_508));
     for room in [0, LONGEST + 10] {
         refused(room, Refusal::TooLong, |out| {
-            flow.client_dgram(&long, Choices::default(), out)
+            flow.client_dgram(&long, SUMMED, out)
         });
         refused(room, Refusal::TooLong, |out| {
-            flow.server_dgram(&long, Choices::default(), out)
+            flow.server_dgram(&long, SUMMED, out)
         });
     }
     refused(31, Refusal::NoRoom, |out| {
-        flow.client_dgram(b"lap!", Choices::default(), out)
+        flow.client_dgram(b"lap!", SUMMED, out)
     });
     refused(31, Refusal::NoRoom, |out| {
-        flow.server_dgram(b"lap!", Choices::default(), out)
+        flow.server_dgram(b"lap!", SUMMED, out)
     });
+}
+
+#[test]
+fn udp_without_checksum_is_refused_before_all_else() {
+    let (flow, long) = (UdpFlow::new(CL, SV), counted(65_508));
+    let bare = Choices {
+        srcip: Some([1, 2, 3, 4].into()),
+        frag_off: 0x4000,
+        csum: false,
+    };
+    for choices in [Choices::default(), bare] {
+        for room in [0, 31, 32, LONGEST + 10] {
+            for bytes in [&b"lap!"[..], &long] {
+                refused(room, Refusal::NoChecksum, |out| {
+                    flow.client_dgram(bytes, choices, out)
+                });
+                refused(room, Refusal::NoChecksum, |out| {
+                    flow.server_dgram(bytes, choices, out)
+                });
+            }
+        }
+    }
 }
 
 #[test]

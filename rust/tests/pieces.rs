@@ -4,7 +4,7 @@ mod common;
 use common::*;
 use wispbundle::{
     Assembly, BlockRequest, ListRefusal, MAP_BYTES, Outcome, PAYLOAD_BYTES, Piece, Refusal,
-    Template, UdpDatagram,
+    Template,
 };
 
 /// What a place for an end holds before a call: no packet ends there.
@@ -166,8 +166,7 @@ fn a_list_is_cut_as_by_single_calls() {
 
 #[test]
 fn a_telemetry_datagram_by_a_list() {
-    let datagram = UdpDatagram::new(CL, SV);
-    let packet = written(|out| datagram.build(&counted(3480), out));
+    let packet = written(|out| datagram(CL, SV).build(&counted(3480), out));
     let sent = &packet[20..];
     let (mut out, mut ends) = (vec![0; 3548], [0; 3]);
     let answer = template().fragments(sent, &requests(&THREE), &mut out, &mut ends);

@@ -4,12 +4,12 @@ use std::error::Error;
 use wispbundle::{ListRefusal, Refusal};
 
 #[test]
-fn numbers_run_from_1_to_18() {
-    for (i, refusal) in Refusal::ALL.into_iter().enumerate() {
-        assert_eq!(usize::from(refusal.number()), i + 1);
-        assert_eq!(Refusal::of_number(refusal.number()), Some(refusal));
+fn numbers_run_from_1_to_18_and_there_is_22() {
+    for (number, refusal) in (1..=18).chain([22]).zip(Refusal::ALL) {
+        assert_eq!(refusal.number(), number);
+        assert_eq!(Refusal::of_number(number), Some(refusal));
     }
-    for other in [0, 19, 255] {
+    for other in [0, 19, 20, 21, 23, 255] {
         assert_eq!(Refusal::of_number(other), None);
     }
 }

@@ -20,21 +20,21 @@ use Rattle.pkt.specs.declared.ipv4.«icmp_echo_hdr».{«icmp_echo_hdr»}
 use Rattle.pkt.specs.Fields.{Bytes}
 use Rattle.pkt.proofs.Choice.{or-no}
 use Rattle.pkt.proofs.Headers.{tcp-length, udp-length, echo-length}
-use Rattle.ezpkt.specs.Build.{flowIp, tcpHdr, tcpPacket, udpHdr, udpField, udpPacket, echoType, echoPacket, startOf, endOf, moreFollow, pieceIp, pieceSize, piecePacket, packetOf, answerOf}
+use Rattle.ezpkt.specs.Build.{flowIp, tcpHdr, tcpPacket, udpHdr, udpPacket, echoType, echoPacket, startOf, endOf, moreFollow, pieceIp, pieceSize, piecePacket, packetOf, answerOf}
 use Rattle.ezpkt.specs.declared.build.TcpSegment.{TcpSegment}
 use Rattle.ezpkt.specs.declared.build.UdpDatagram.{UdpDatagram}
 use Rattle.ezpkt.specs.declared.build.IcmpEcho.{IcmpEcho}
 use Rattle.ezpkt.specs.declared.build.IpPiece.{IpPiece}
 use Rattle.ezpkt.specs.declared.build.Request.{Request}
 use Rattle.ezpkt.specs.declared.build.Request.the-variants.{Tcp, Udp, Echo, Piece}
-use Rattle.ezpkt.proofs.Deciding.{sized-fits, piece-fits}
+use Rattle.ezpkt.proofs.Deciding.{sized-fits, datagram-fits, piece-fits}
 use Rattle.inspect.specs.Answers.{Verdict, good}
 use Rattle.inspect.specs.Check.{ofMany, isPiece, partAnswer, checkAnswer}
 use Rattle.inspect.specs.Encoded.{readOf}
 use Rattle.inspect.proofs.Decoding.{check-encoded, Fit}
-use Rattle.inspect.proofs.Sent.{piece-refused, tcp-good, udp-good, udp-bare, echo-good}
+use Rattle.inspect.proofs.Sent.{piece-refused, tcp-good, udp-good, echo-good}
 use Rattle.demands.specs.Ranges.{Fitting, Between, InRange}
-use Rattle.demands.specs.Checked.{udpVerdict, checkOf}
+use Rattle.demands.specs.Checked.{checkOf}
 use Rattle.demands.proofs.Pieces.{piece-evil, piece-fit, piece-read}
 
 -- an encoded header with its data part, which is answered v where it is no piece
@@ -77,18 +77,11 @@ unfolding udpPacket readOf
 udp-checked u p r range bp few =
     let h : «ip_hdr» = flowIp 17 (28 + length p) (u .«frag_off») (u .saddr) (u .daddr) in
     let x : «udp_hdr» = udpHdr u (length p) in
-    let c : ℕ = udpField u p in
+    let c : ℕ = udpChecksum (u .saddr) (u .daddr) x p in
     let d : List ℕ = udpHeader x c ++ p in
     let size : length d ≡ 8 + length p = length-append (udpHeader x c) p ∙ ap (λ (n : ℕ). n + length p) (udp-length x c) in
     let fit = flow-fit 17 (28 + length p) (u .«frag_off») (u .saddr) (u .daddr) (omega arith) (omega arith) (range .0) (range .1) in
-    judged h d r (gives (udpVerdict (u .csum))) fit (omega arith) (λ whole. asked (u .csum) whole)
-  where
-    asked : (b : Bool) → isPiece (readOf (flowIp 17 (28 + length p) (u .«frag_off») (u .saddr) (u .daddr))) ≡ false
-        → partAnswer (readOf (flowIp 17 (28 + length p) (u .«frag_off») (u .saddr) (u .daddr)))
-        (udpHeader (udpHdr u (length p)) (cond b (udpChecksum (u .saddr) (u .daddr) (udpHdr u (length p)) p) 0) ++ p)
-        ≡ gives (udpVerdict b)
-    asked true whole = udp-good _ p bp whole (udpHdr u (length p)) refl refl (omega arith)
-    asked false whole = udp-bare _ p bp whole (udpHdr u (length p)) refl refl (omega arith)
+    judged h d r (gives good) fit (omega arith) (λ whole. udp-good (readOf h) p bp whole x refl refl (omega arith))
 
 echo-checked : (e : IcmpEcho) (p r : List ℕ) → InRange (Echo e) → Bytes p → length p ≤ 65507 → checkAnswer (echoPacket e p ++ r) ≡ checkOf (Echo e) p
 unfolding echoPacket readOf
@@ -142,7 +135,7 @@ module _ (q : IpPiece) (p : List ℕ) where
 pub packet-checked : (q : Request) (p r : List ℕ) (room n : ℕ) → InRange q → Bytes p → answerOf q (length p) room ≡ gives n
     → checkAnswer (packetOf q p ++ r) ≡ checkOf q p
 packet-checked (Tcp t) p r room n range bp e = tcp-checked t p r range bp (sized-fits 65495 40 (length p) room n e .few)
-packet-checked (Udp u) p r room n range bp e = udp-checked u p r range bp (sized-fits 65507 28 (length p) room n e .few)
+packet-checked (Udp u) p r room n range bp e = udp-checked u p r range bp (datagram-fits u (length p) room n e .few)
 packet-checked (Echo x) p r room n range bp e = echo-checked x p r range bp (sized-fits 65507 28 (length p) room n e .few)
 packet-checked (Piece q) p r room n range bp e =
     let f = piece-fits q (length p) room n e in

@@ -93,7 +93,7 @@ module _ (f : Feed) (b s′ : List ℕ) (x : FrameFed f b s′) where
 
   -- the datagram in the scratch buffer
   given : answerOf (Udp (frameDgram f)) (length b) (length (x .scratch)) ≡ gives (28 + length b)
-  given = udp-given (frameDgram f) (length b) (length (x .scratch)) (left .granted .few) (left .granted .scratch-room)
+  given = udp-given (frameDgram f) (length b) (length (x .scratch)) refl (left .granted .few) (left .granted .scratch-room)
 
   built : Answered (Udp (frameDgram f)) b (x .scratch) (Packet (28 + length b)) s′
   built = record { answer = sym given; after = left .scratch-is ∙ ap (λ (a : Answer ℕ). leaves a (udpPacket (frameDgram f) b) (x .scratch)) (sym given) }
@@ -109,7 +109,7 @@ module _ (f : Feed) (b s′ : List ℕ) (x : FrameFed f b s′) where
   good-again k l size is o o′ n y =
       let same : l ≡ payloadIn (28 + length b) s′ = is ∙ sym datagram in
       let long : k ≡ length (payloadIn (28 + length b) s′) = size ∙ sym (ap length datagram ∙ payload-length f b) in
-      datagram-good t (Udp (frameDgram f)) good b (x .scratch) s′ (28 + length b) one (of-udp (frameDgram f) (refl, refl, refl)) (x .bytes) built o o′ n
+      datagram-good t (Udp (frameDgram f)) b (x .scratch) s′ (28 + length b) one (of-udp (frameDgram f) (refl, refl, refl)) (x .bytes) built o o′ n
       (subst (λ (j : ℕ). Answered (datagramOf t j) (payloadIn (28 + length b) s′) o (Packet n) o′) long
       (subst (λ (z : List ℕ). Answered (datagramOf t k) z o (Packet n) o′) same y))
 

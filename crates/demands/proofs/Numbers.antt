@@ -84,13 +84,13 @@ fitting-in size room = refusing _ (ltb room size) 3 _ refl (accepted size)
 
 -- ---- building
 
-sized-in : (most head n room : ℕ) → Among (1 ∷ 3 ∷ []) (sizedAnswer most head n room)
-sized-in most head n room = refusing _ (ltb most n) 1 _ refl (refusing _ (ltb room (head + n)) 3 _ refl (accepted _))
+sized-in : (ns : List ℕ) (most head n room : ℕ) → isIn 1 ns ≡ true → isIn 3 ns ≡ true → Among ns (sizedAnswer most head n room)
+sized-in ns most head n room one three = refusing ns (ltb most n) 1 _ one (refusing ns (ltb room (head + n)) 3 _ three (accepted _))
 
 pub built-in : (q : Request) (n room : ℕ) → Among (buildNumbers q) (answerOf q n room)
-built-in (Tcp t) n room = sized-in 65495 40 n room
-built-in (Udp t) n room = sized-in 65507 28 n room
-built-in (Echo t) n room = sized-in 65507 28 n room
+built-in (Tcp t) n room = sized-in _ 65495 40 n room refl refl
+built-in (Udp u) n room = unless _ (u .csum) 22 _ refl (sized-in _ 65507 28 n room refl refl)
+built-in (Echo t) n room = sized-in _ 65507 28 n room refl refl
 built-in (Piece q) n room =
     let size : ℕ = sizeOf (Piece q) n in
     refusing _ (ltb 65515 n) 1 _ refl (refusing _ (ltb 8191 (q .off)) 2 _ refl (refusing _ (ltb room size) 3 _ refl (accepted size)))

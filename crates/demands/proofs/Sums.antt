@@ -1,7 +1,7 @@
 -- A packet that is built is mended to itself, since it was encoded with the sums that mending works out; with other addresses in its header it is
 -- mended to the one that is built with them.
 use mathlib.Core.Path.{_≡_, refl, ap, _∙_, subst}
-use mathlib.Core.Bool.{Bool, true, false, cond}
+use mathlib.Core.Bool.{Bool, true, false}
 use mathlib.Core.List.{List, [], _++_, append-nil}
 use Prim.Native.Nat.{ℕ, _+_, _≤_}
 use native.Mathlib.Omega.{arith}
@@ -19,13 +19,13 @@ use Rattle.pkt.specs.declared.ipv4.«icmp_echo_hdr».{«icmp_echo_hdr»}
 use Rattle.pkt.proofs.Bytes.{bytes-nil, bytes-append}
 use Rattle.pkt.proofs.Fields.{be-bytes}
 use Rattle.pkt.proofs.Checksum.{checksum-most, nonzero-range}
-use Rattle.ezpkt.specs.Build.{flowIp, tcpHdr, tcpPacket, udpHdr, udpField, udpPacket, echoType, echoPacket, packetOf}
+use Rattle.ezpkt.specs.Build.{flowIp, tcpHdr, tcpPacket, udpHdr, udpPacket, echoType, echoPacket, packetOf}
 use Rattle.ezpkt.specs.declared.build.TcpSegment.{TcpSegment}
 use Rattle.ezpkt.specs.declared.build.UdpDatagram.{UdpDatagram}
 use Rattle.ezpkt.specs.declared.build.IcmpEcho.{IcmpEcho}
 use Rattle.ezpkt.specs.declared.build.Request.{Request}
 use Rattle.ezpkt.specs.declared.build.Request.the-variants.{Tcp, Udp, Echo, Piece}
-use Rattle.ezpkt.proofs.Deciding.{sized-fits}
+use Rattle.ezpkt.proofs.Deciding.{sized-fits, datagram-fits}
 use Rattle.inspect.specs.Check.{isPiece}
 use Rattle.inspect.specs.Encoded.{readOf}
 use Rattle.inspect.proofs.Decoding.{Fit}
@@ -33,7 +33,7 @@ use Rattle.mending.specs.Sums.{sumsIn, mendPacket}
 use Rattle.mending.specs.Packets.{AllRight}
 use Rattle.mending.proofs.Packets.{packets-mended}
 use Rattle.mending.proofs.Renewed.{take-bytes, drop-bytes}
-use Rattle.mending.proofs.Encoded.{ip-bytes, evil-kept, piece-kept, tcp-size, tcp-bytes, tcp-mended, udp-size, udp-bytes, udp-mended, bare-mended, echo-size, echo-bytes, echo-mended}
+use Rattle.mending.proofs.Encoded.{ip-bytes, evil-kept, piece-kept, tcp-size, tcp-bytes, tcp-mended, udp-size, udp-bytes, udp-mended, echo-size, echo-bytes, echo-mended}
 use Rattle.demands.specs.Ranges.{Between}
 use Rattle.demands.specs.Mending.{Asked, Transport, Whole, readdressed, between}
 use Rattle.demands.proofs.Checked.{flow-fit}
@@ -117,33 +117,30 @@ module _ (u : UdpDatagram) (p : List ℕ) (a : Asked (Udp u) p) where
 
   udp-fit : (s d : ℕ) → Between s d → Fit (udpIp s d)
   udp-fit s d ends =
-      let few = sized-fits 65507 28 (length p) (a .room) (a .size) (a .taken) .few in
+      let few = datagram-fits u (length p) (a .room) (a .size) (a .taken) .few in
       flow-fit 17 (28 + length p) (u .«frag_off») s d (omega arith) (omega arith) (a .range .0) ends
 
-  -- with a checksum, whose field holds any number but 0, or with none
-  udp-mends : (s d x c : ℕ) (b : Bool) → Between s d → (1 ≤ c) × (c ≤ 65535) → Whole (Udp u)
-      → mendPacket (ipBytes (udpIp s d) x ++ (udpHeader y (cond b c 0) ++ p)) ≡ ipHeader (udpIp s d) ++ (udpHeader y (cond b (udpChecksum s d y p) 0) ++ p)
+  -- with any number but 0 for the checksum
+  udp-mends : (s d x c : ℕ) → Between s d → (1 ≤ c) × (c ≤ 65535) → Whole (Udp u)
+      → mendPacket (ipBytes (udpIp s d) x ++ (udpHeader y c ++ p)) ≡ ipHeader (udpIp s d) ++ (udpHeader y (udpChecksum s d y p) ++ p)
   unfolding readOf
-  udp-mends s d x c true ends (some, most) (clear, piece) =
+  udp-mends s d x c ends (some, most) (clear, piece) =
       let total : 28 + length p ≡ 20 + length (udpHeader y c ++ p) = omega (arith, udp-size p c y) in
       simp append-nil at (udp-mended (udpIp s d) (udp-fit s d ends) clear piece x p [] (a .bytes) bytes-nil y c some most refl refl total)
-  udp-mends s d x c false ends (some, most) (clear, piece) =
-      let total : 28 + length p ≡ 20 + length (udpHeader y 0 ++ p) = omega (arith, udp-size p 0 y) in
-      simp append-nil at (bare-mended (udpIp s d) (udp-fit s d ends) clear piece x p [] (a .bytes) bytes-nil y refl refl total)
 
   udp-right : AllRight (sumsIn (udpPacket u p))
   unfolding udpPacket readOf ipHeader
   udp-right =
       let ends = a .range .1 in
-      let c : ℕ = udpField u p in
+      let c : ℕ = udpChecksum (u .saddr) (u .daddr) y p in
       right (udpIp (u .saddr) (u .daddr)) (udp-fit (u .saddr) (u .daddr) ends) (udpHeader y c ++ p) (omega (arith, udp-size p c y)) (udp-bytes p c y (a .bytes))
-      (λ clear piece. udp-mends (u .saddr) (u .daddr) _ _ (u .csum) ends (udp-range (u .saddr) (u .daddr) y p) (clear, piece))
+      (λ clear piece. udp-mends (u .saddr) (u .daddr) _ c ends (udp-range (u .saddr) (u .daddr) y p) (clear, piece))
 
   udp-moved : (s d : ℕ) → Between s d → Whole (Udp u) → mendPacket (readdressed s d (udpPacket u p)) ≡ packetOf (between s d (Udp u)) p
   unfolding udpPacket
   udp-moved s d ends whole =
       ap mendPacket (readdressed-is 17 (28 + length p) (u .«frag_off») (u .saddr) (u .daddr) s d _)
-      ∙ udp-mends s d _ _ (u .csum) ends (udp-range (u .saddr) (u .daddr) y p) whole
+      ∙ udp-mends s d _ _ ends (udp-range (u .saddr) (u .daddr) y p) whole
 
 -- ---- ICMP
 
@@ -199,7 +196,7 @@ unfolding tcpPacket udpPacket echoPacket
 whole-bytes (Tcp t) p bp w =
     encoded-bytes (flowIp 6 (40 + length p) (t .«frag_off») (t .saddr) (t .daddr)) _ (tcp-bytes p (tcpChecksum (t .saddr) (t .daddr) (tcpHdr t) p) (tcpHdr t) bp)
 whole-bytes (Udp u) p bp w =
-    encoded-bytes (flowIp 17 (28 + length p) (u .«frag_off») (u .saddr) (u .daddr)) _ (udp-bytes p (udpField u p) (udpHdr u (length p)) bp)
+    encoded-bytes (flowIp 17 (28 + length p) (u .«frag_off») (u .saddr) (u .daddr)) _ (udp-bytes p (udpChecksum (u .saddr) (u .daddr) (udpHdr u (length p)) p) (udpHdr u (length p)) bp)
 whole-bytes (Echo e) p bp w =
     let i : «icmp_hdr» = icmpNew (echoType (e .reply)) in
     let n : «icmp_echo_hdr» = echoNew (e .seq) in

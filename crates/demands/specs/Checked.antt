@@ -7,7 +7,7 @@ use Rattle.pkt.specs.Answers.{Answer, refused, gives}
 use Rattle.ezpkt.specs.Build.{moreFollow, pieceIp}
 use Rattle.ezpkt.specs.declared.build.Request.{Request}
 use Rattle.ezpkt.specs.declared.build.Request.the-variants.{Tcp, Udp, Echo, Piece}
-use Rattle.inspect.specs.Answers.{Verdict, good, noChecksum}
+use Rattle.inspect.specs.Answers.{Verdict, good}
 use Rattle.inspect.specs.Header.{hasBit}
 use Rattle.inspect.specs.Check.{ofMany, partAnswer}
 use Rattle.inspect.specs.Encoded.{readOf}
@@ -19,15 +19,11 @@ reservedField x = hasBit 0x8000 x
 abbrev pub pieceField : ℕ → Bool
 pieceField x = ofMany (hasBit 0x2000 x) (x % 0x2000)
 
--- what a UDP datagram deserves: "good without checksum (UDP field 0)"
-abbrev pub udpVerdict : Bool → Verdict
-udpVerdict csum = cond csum good noChecksum
-
--- What the check owes a request and its payload: 18 for what has the reserved bit; 13 for what has an offset or MF; else good, and good without checksum for UDP with none
--- asked for; and for a piece that is a whole datagram what its payload p is answered under its header.
+-- What the check owes a request and its payload: 18 for what has the reserved bit; 13 for what has an offset or MF; else good; and for a
+-- piece that is a whole datagram what its payload p is answered under its header.
 abbrev pub checkOf : Request → List ℕ → Answer Verdict
 checkOf (Tcp t) p = cond (reservedField (t .«frag_off»)) (refused 18) (cond (pieceField (t .«frag_off»)) (refused 13) (gives good))
-checkOf (Udp u) p = cond (reservedField (u .«frag_off»)) (refused 18) (cond (pieceField (u .«frag_off»)) (refused 13) (gives (udpVerdict (u .csum))))
+checkOf (Udp u) p = cond (reservedField (u .«frag_off»)) (refused 18) (cond (pieceField (u .«frag_off»)) (refused 13) (gives good))
 checkOf (Echo e) p = gives good
 checkOf (Piece q) p =
     cond (q .template .evil) (refused 18)

@@ -82,10 +82,10 @@ pub data AmongList {A : Type 0} (ns ms : List ℕ) (count : ℕ) : ListAnswer A 
   number-at : (n i : ℕ) → isIn n ms ≡ true → i < count → AmongList ns ms count (refusedAt n i)
   accepted-all : (a : A) → AmongList ns ms count (givesAll a)
 
--- "building 1, 2, 3", of which 2 is "piece offset above 8,191"
+-- "building 1, 2, 3", of which 2 is "piece offset above 8,191"; document 02, T-09: "22, first of the building order for UDP"
 abbrev pub buildNumbers : Request → List ℕ
 buildNumbers (Tcp t) = 1 ∷ 3 ∷ []
-buildNumbers (Udp u) = 1 ∷ 3 ∷ []
+buildNumbers (Udp u) = 22 ∷ 1 ∷ 3 ∷ []
 buildNumbers (Echo e) = 1 ∷ 3 ∷ []
 buildNumbers (Piece q) = 1 ∷ 2 ∷ 3 ∷ []
 

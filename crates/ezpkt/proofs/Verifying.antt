@@ -1,7 +1,6 @@
 -- What is built verifies: each packet's IPv4 header, and its transport checksum where it has one. The length that is answered is the
 -- packet's, and its total length.
 use mathlib.Core.Path.{_≡_, refl, sym, ap, _∙_}
-use mathlib.Core.Bool.{true, false}
 use Prim.Native.Nat.{ℕ, _+_, _≤_}
 use native.Mathlib.Omega.{arith}
 use mathlib.Core.List.{List, _++_}
@@ -11,7 +10,7 @@ use Rattle.pkt.specs.Answers.{Answer, gives}
 use Rattle.pkt.specs.Fields.{value, Field, field, Bytes, widths}
 use Rattle.pkt.specs.Rfc1071.{Verifies, checksum}
 use Rattle.pkt.specs.Rfc791.{ipFields, ipBytes, ipHeader}
-use Rattle.pkt.specs.Rfc768.{pseudo, udpHeader}
+use Rattle.pkt.specs.Rfc768.{pseudo}
 use Rattle.pkt.specs.Rfc792.{icmpNew, echoNew}
 use Rattle.pkt.specs.Written.{written, leaves}
 use Rattle.pkt.specs.declared.ipv4.«ip_hdr».{«ip_hdr»}
@@ -51,21 +50,15 @@ unfolding tcpPacket
 tcp-sum-verifies t p bp =
     rw (behind (flowIp 6 (40 + length p) (t .«frag_off») (t .saddr) (t .daddr))) (tcp-verifies (t .saddr) (t .daddr) p bp (tcpHdr t))
 
--- a UDP datagram's where one is asked for,
-pub udp-sum-verifies : (u : UdpDatagram) (p : List ℕ) → Bytes p → u .csum ≡ true
+-- a UDP datagram's,
+pub udp-sum-verifies : (u : UdpDatagram) (p : List ℕ) → Bytes p
     → Verifies (pseudo (u .saddr) (u .daddr) 17 (8 + length p) ++ drop 20 (udpPacket u p))
 unfolding udpPacket
-udp-sum-verifies u p bp on =
-    rw (behind (flowIp 17 (28 + length p) (u .«frag_off») (u .saddr) (u .daddr)), on)
+udp-sum-verifies u p bp =
+    rw (behind (flowIp 17 (28 + length p) (u .«frag_off») (u .saddr) (u .daddr)))
     (udp-verifies (u .saddr) (u .daddr) p bp (udpHdr u (length p)))
 
--- and its field is 0 where none is;
-pub udp-field-zero : (u : UdpDatagram) (p : List ℕ) → u .csum ≡ false
-    → drop 20 (udpPacket u p) ≡ udpHeader (udpHdr u (length p)) 0 ++ p
-unfolding udpPacket
-udp-field-zero u p off = rw (behind (flowIp 17 (28 + length p) (u .«frag_off») (u .saddr) (u .daddr)), off)
-
--- an echo's verifies with nothing before it.
+-- and an echo's verifies with nothing before it.
 pub echo-sum-verifies : (e : IcmpEcho) (p : List ℕ) → Bytes p → Verifies (drop 20 (echoPacket e p))
 unfolding echoPacket
 echo-sum-verifies e p bp =

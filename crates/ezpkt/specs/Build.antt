@@ -56,14 +56,10 @@ tcpPacket t p =
 abbrev pub udpHdr : UdpDatagram → ℕ → «udp_hdr»
 udpHdr u n = record { sport = u .sport; dport = u .dport; len = 8 + n }
 
--- "the checksum is 0 unless asked for"
-abbrev pub udpField : UdpDatagram → List ℕ → ℕ
-udpField u p = cond (u .csum) (udpChecksum (u .saddr) (u .daddr) (udpHdr u (length p)) p) 0
-
 unfoldable pub udpPacket : UdpDatagram → List ℕ → List ℕ
 udpPacket u p =
     ipHeader (flowIp 17 (28 + length p) (u .«frag_off») (u .saddr) (u .daddr))
-    ++ (udpHeader (udpHdr u (length p)) (udpField u p) ++ p)
+    ++ (udpHeader (udpHdr u (length p)) (udpChecksum (u .saddr) (u .daddr) (udpHdr u (length p)) p) ++ p)
 
 -- ---- an ICMP echo
 
@@ -149,6 +145,10 @@ sizeOf (Piece q) n = pieceSize q n
 abbrev pub sizedAnswer : ℕ → ℕ → ℕ → ℕ → Answer ℕ
 sizedAnswer most head n room = cond (ltb most n) (refused 1) (fitting (head + n) room)
 
+-- Document 02, T-09: "The builder refuses a datagram with no checksum asked for. .. Refusals: 22, first of the building order for UDP."
+abbrev pub datagramAnswer : UdpDatagram → ℕ → ℕ → Answer ℕ
+datagramAnswer u n room = cond (u .csum) (sizedAnswer mostUdp 28 n room) (refused 22)
+
 -- Number 2: "piece offset above 8,191"
 abbrev pub isBadOffset : ℕ → Bool
 isBadOffset off = ltb mostOffset off
@@ -161,7 +161,7 @@ fragmentAnswer q n room =
 -- the answer, for a payload of n bytes and room for so many
 abbrev pub answerOf : Request → ℕ → ℕ → Answer ℕ
 answerOf (Tcp t) n room = sizedAnswer mostTcp 40 n room
-answerOf (Udp u) n room = sizedAnswer mostUdp 28 n room
+answerOf (Udp u) n room = datagramAnswer u n room
 answerOf (Echo e) n room = sizedAnswer mostUdp 28 n room
 answerOf (Piece q) n room = fragmentAnswer q n room
 

@@ -9,7 +9,7 @@ ghost use mathlib.Core.Path.{_≡_};
 ghost use Prim.Native.Nat.{_≤_};
 ghost use Rattle.pkt.specs.Answers.{mostIp};
 ghost use Rattle.ezpkt.specs.Answers.{builtSays};
-ghost use Rattle.ezpkt.specs.Build.{tcpHdr, sizedAnswer, fragmentAnswer, answerOf, Answered};
+ghost use Rattle.ezpkt.specs.Build.{tcpHdr, sizedAnswer, datagramAnswer, fragmentAnswer, answerOf, Answered};
 
 // A TCP segment between two addresses and ports.
 #[repr(C)]
@@ -39,7 +39,7 @@ impl TcpSegment {
     }
 }
 
-// A UDP datagram between two addresses and ports, with a checksum or with none.
+// A UDP datagram between two addresses and ports. One for which no checksum is asked is refused.
 #[repr(C)]
 pub struct UdpDatagram {
     pub saddr: u32,
@@ -95,6 +95,15 @@ fn sized(most: usize, head: usize, n: usize, room: usize) -> Built
     Built::Packet(size)
 }
 
+fn sized_datagram(u: UdpDatagram, n: usize, room: usize) -> Built
+    ensures { λ r. ⌜ builtSays r ≡ datagramAnswer u n room ⌝ }
+{
+    if u.csum {
+        return sized(limit::UDP_PAYLOAD, 28, n, room);
+    }
+    Built::Refused(refusal::NO_CHECKSUM)
+}
+
 fn sized_piece(q: IpPiece, n: usize, room: usize) -> Built
     ensures { λ r. ⌜ builtSays r ≡ fragmentAnswer q n room ⌝ }
 {
@@ -118,7 +127,7 @@ pub fn answer(req: Request, n: usize, room: usize) -> Built
 {
     match req {
         Request::Tcp(_) => sized(limit::TCP_PAYLOAD, 40, n, room),
-        Request::Udp(_) => sized(limit::UDP_PAYLOAD, 28, n, room),
+        Request::Udp(u) => sized_datagram(u, n, room),
         Request::Echo(_) => sized(limit::UDP_PAYLOAD, 28, n, room),
         Request::Piece(q) => sized_piece(q, n, room),
     }

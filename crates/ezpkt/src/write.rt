@@ -17,7 +17,7 @@ ghost use lib.ListN.{length};
 ghost use Rattle.pkt.specs.Written.{written};
 ghost use Rattle.pkt.specs.Answers.{gives, summed, mostTcp, mostUdp, mostIp};
 ghost use Rattle.pkt.specs.Rfc791.{ipHeader};
-ghost use Rattle.ezpkt.specs.Build.{flowIp, udpHdr, udpField, echoType, startAt, endAt, pieceFlags, pieceIp, flagBit, tcpPacket, udpPacket, echoPacket, piecePacket, packetOf, answerOf, sizeOf};
+ghost use Rattle.ezpkt.specs.Build.{flowIp, echoType, startAt, endAt, pieceFlags, pieceIp, flagBit, tcpPacket, udpPacket, echoPacket, piecePacket, packetOf, answerOf, sizeOf};
 ghost use Rattle.ezpkt.specs.declared.build.Request.the-variants.{Piece};
 
 // src at the start of dst, whose other bytes stay.
@@ -89,7 +89,7 @@ fn udp(u: UdpDatagram, payload: &[u8], out: &mut [u8])
         dport: u.dport,
         len: (8 + n) as u16,
     };
-    let csum = udp_field(u, h, payload);
+    let csum = number(ipv4::udp_csum(u.saddr, u.daddr, h, payload));
     let ip = flow_ip(
         ipv4::proto::UDP,
         (28 + n) as u16,
@@ -99,17 +99,6 @@ fn udp(u: UdpDatagram, payload: &[u8], out: &mut [u8])
     );
     let head = h.to_bytes(csum);
     put_all(&ip, &head, payload, out);
-}
-
-// The checksum's field of the datagram with the header h: 0 unless a checksum is asked for.
-fn udp_field(u: UdpDatagram, h: udp_hdr, payload: &[u8]) -> u16
-    requires { ⌜ (length (now payload) ≤ mostUdp) × (h ≡ udpHdr u (length (now payload))) ⌝ }
-    ensures { λ r. ⌜ r ≡ udpField u (now (payload .entry)) ⌝ }
-{
-    if u.csum {
-        return number(ipv4::udp_csum(u.saddr, u.daddr, h, payload));
-    }
-    0
 }
 
 fn echo_type(reply: bool) -> u8

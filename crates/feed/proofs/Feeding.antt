@@ -10,11 +10,12 @@ use borrow.Author.Tests.{ltb-false}
 use Rattle.pkt.specs.Answers.{gives}
 use Rattle.pkt.specs.Written.{written}
 use Rattle.pkt.specs.Rfc791.{ipHeader}
-use Rattle.pkt.specs.Rfc768.{udpHeader}
+use Rattle.pkt.specs.Rfc768.{udpHeader, udpChecksum}
+use Rattle.pkt.specs.declared.ipv4.«udp_hdr».{«udp_hdr»}
 use Rattle.pkt.proofs.Choice.{or-no}
 use Rattle.pkt.proofs.Deciding.{past}
 use Rattle.pkt.proofs.Headers.{ip-length, udp-length}
-use Rattle.ezpkt.specs.Build.{flowIp, udpHdr, udpField, udpPacket}
+use Rattle.ezpkt.specs.Build.{flowIp, udpHdr, udpPacket}
 use Rattle.pcap.specs.Answers.{mostMicros}
 use Rattle.feed.specs.declared.Feed.{Feed}
 use Rattle.feed.specs.Feed.{badLink, frameDgram, payloadOf, frameSize, feedAnswer}
@@ -55,14 +56,15 @@ granted m n usec scratch out size e =
 
 pub payload-length : (f : Feed) (b : List ℕ) → length (payloadOf f b) ≡ 8 + length b
 unfolding payloadOf
-payload-length f b = length-append (udpHeader (udpHdr (frameDgram f) (length b)) (udpField (frameDgram f) b)) b ∙ ap (λ (k : ℕ). k + length b) (udp-length _ _)
+payload-length f b = length-append (udpHeader (udpHdr (frameDgram f) (length b)) _) b ∙ ap (λ (k : ℕ). k + length b) (udp-length _ _)
 
 -- the datagram in the scratch buffer, from behind its IPv4 header to its end
 pub payload-lent : (f : Feed) (b s : List ℕ) (k : ℕ) → k ≡ 8 + length b → take k (drop 20 (written (udpPacket (frameDgram f) b) s)) ≡ payloadOf f b
 unfolding udpPacket written payloadOf
 payload-lent f b s k e =
     let ip : List ℕ = ipHeader (flowIp 17 (28 + length b) 0 (f .car .ip) (f .core .ip)) in
-    let udp : List ℕ = udpHeader (udpHdr (frameDgram f) (length b)) (udpField (frameDgram f) b) ++ b in
+    let h : «udp_hdr» = udpHdr (frameDgram f) (length b) in
+    let udp : List ℕ = udpHeader h (udpChecksum (f .car .ip) (f .core .ip) h b) ++ b in
     let rest : List ℕ = drop (length (ip ++ udp)) s in
     ap (λ (l : List ℕ). take k (drop 20 l)) (append-assoc ip udp rest)
     ∙ ap (take k) (drop-at ip (udp ++ rest) 20 (ip-length _))

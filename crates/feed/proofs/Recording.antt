@@ -1,5 +1,6 @@
 -- What the calls below leave where nothing is refused, and records one behind the other.
 use mathlib.Core.Path.{_≡_, refl, sym, ap, _∙_}
+use mathlib.Core.Bool.{true}
 use mathlib.Core.List.{List, [], _++_, append-assoc}
 use Prim.Native.Nat.{ℕ, zero, suc, _+_, _-_, _*_, _≤_, _<_}
 use native.Mathlib.Omega.{arith}
@@ -14,7 +15,6 @@ use Rattle.ezpkt.proofs.Deciding.{udp-given, piece-given}
 use Rattle.pcap.specs.Pcap.{recordBytes, recordsBytes}
 use Rattle.pcap.proofs.Pcap.{record-length}
 use Rattle.planner.specs.Cutting.{lengthAt, requestsFrom}
-use Rattle.feed.specs.Cutting.{piecesFrom}
 use Rattle.feed.specs.Steps.{recordLong, recordsFrom}
 use Rattle.ezpkt.specs.Build.{fragmentSize, packetOf, udpPacket, Answered}
 use Rattle.ezpkt.specs.Ip4.{fragmentOf}
@@ -23,10 +23,10 @@ use Rattle.ezpkt.specs.declared.build.UdpDatagram.{UdpDatagram}
 use Rattle.ezpkt.specs.declared.build.Built.{Built}
 use Rattle.ezpkt.specs.declared.build.Request.the-variants.{Udp}
 
--- a datagram
-pub udp-written : (u : UdpDatagram) (p o : List ℕ) (r : Built) (o′ : List ℕ) → length p ≤ 65507 → 28 + length p ≤ length o → Answered (Udp u) p o r o′
-    → o′ ≡ written (udpPacket u p) o
-udp-written u p o r o′ few room x = x .after ∙ ap (λ (a : Answer ℕ). leaves a (udpPacket u p) o) (udp-given u (length p) (length o) few room)
+-- a datagram with a checksum
+pub udp-written : (u : UdpDatagram) (p o : List ℕ) (r : Built) (o′ : List ℕ) → u .csum ≡ true → length p ≤ 65507 → 28 + length p ≤ length o
+    → Answered (Udp u) p o r o′ → o′ ≡ written (udpPacket u p) o
+udp-written u p o r o′ on few room x = x .after ∙ ap (λ (a : Answer ℕ). leaves a (udpPacket u p) o) (udp-given u (length p) (length o) on few room)
 
 -- a piece
 pub piece-written : (t : Template) (off len : ℕ) (p o : List ℕ) (r : Built) (o′ : List ℕ) → length p ≤ 65515 → off ≤ 8191

@@ -7,8 +7,8 @@ use lib.ListN.{length}
 use lib.Dec.{ltb}
 use Rattle.pkt.specs.Answers.{Answer, refused, gives, mapped, mostUdp}
 use Rattle.pkt.specs.Written.{leaves}
-use Rattle.pkt.specs.Rfc768.{udpHeader}
-use Rattle.ezpkt.specs.Build.{udpHdr, udpField, udpPacket}
+use Rattle.pkt.specs.Rfc768.{udpHeader, udpChecksum}
+use Rattle.ezpkt.specs.Build.{udpHdr, udpPacket}
 use Rattle.ezpkt.specs.declared.SocketAddrV4.{SocketAddrV4}
 use Rattle.ezpkt.specs.declared.ip4.Template.{Template}
 use Rattle.ezpkt.specs.declared.build.UdpDatagram.{UdpDatagram}
@@ -53,7 +53,7 @@ frameDgram f =
 
 -- what is cut: its UDP header, and the telemetry b behind it
 unfoldable pub payloadOf : Feed → List ℕ → List ℕ
-payloadOf f b = udpHeader (udpHdr (frameDgram f) (length b)) (udpField (frameDgram f) b) ++ b
+payloadOf f b = udpHeader (udpHdr (frameDgram f) (length b)) (udpChecksum (f .car .ip) (f .core .ip) (udpHdr (frameDgram f) (length b)) b) ++ b
 
 -- what every piece says in its header: TOS 0, the identification, no DF and no reserved bit, TTL 64, UDP
 abbrev pub templateOf : Feed → Template

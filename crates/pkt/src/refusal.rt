@@ -42,6 +42,8 @@ pub const FULL: u8 = 19;
 pub const TOO_FAR_FOR_SLOT: u8 = 20;
 // There is no cutting plan for so many bytes and such a link.
 pub const NO_PLAN: u8 = 21;
+// A UDP datagram is asked for without a checksum.
+pub const NO_CHECKSUM: u8 = 22;
 // A capture does not start with document 01's file header.
 pub const NOT_CAPTURE: u8 = 23;
 // A link size below 28 or above 65,535.

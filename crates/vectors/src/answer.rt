@@ -7,6 +7,7 @@ use crate::place;
 use crate::state::Now;
 use ezpkt::part::back;
 use ezpkt::part::front;
+use pkt::refusal;
 ghost use mathlib.Core.Path.{_≡_};
 ghost use Prim.Native.Nat.{_≤_};
 ghost use lib.ListN.{length};
@@ -80,6 +81,7 @@ pub(crate) fn begun(now: Now) -> Now {
     next.bytes = 0;
     next.digest = EMPTY;
     next.kept = true;
+    next.refused = true;
     next
 }
 
@@ -90,6 +92,7 @@ pub(crate) fn with(now: Now, out: &[u8]) -> Now {
     next.bytes = std::num::wrapping_add_u32(now.bytes, (n % 4294967296) as u32);
     next.digest = digest(now.digest, front(out, n));
     next.kept = now.kept & (now.count > 0) & margin_stays(out, n);
+    next.refused = now.refused & (now.number == refusal::NO_CHECKSUM) & untouched(out);
     next
 }
 

@@ -58,6 +58,7 @@ fn again(now: Now, kind: u8, b: &[u8], bytes: &[u8], frag_off: u16, out: &mut [u
     payload::fill(answer::MARK, out);
     let mut next = now;
     next.count = 0;
+    next.number = 0;
     answer::with(sent(next, kind, b, bytes, frag_off, out), out)
 }
 
@@ -133,8 +134,12 @@ fn compared(before: Now, now: Now, kind: u8, b: &[u8], out: &[u8]) -> Now {
     state::told(now, counts & bytes & has_state(kind, a, end, before, now))
 }
 
+// A datagram without checksum is refused, and what the Rust wrote does not count.
 fn written(now: Now, kind: u8, b: &[u8], bytes: &[u8], out: &mut [u8]) -> Now {
     let next = every(now, kind, b, bytes, out);
+    if udp::is_retired(kind, b) {
+        return state::told(next, next.refused);
+    }
     compared(now, next, kind, b, out)
 }
 

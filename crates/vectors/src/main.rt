@@ -1,10 +1,11 @@
 // Reads the file of calls and of what the Rust answered (oracle/FORMAT.md), makes each call through
 // this library and compares: every number, every length, every byte of every packet, or its digest
 // where the file has only that, every flow and every record after it, and that the bytes behind what
-// was written stay (answer.rt and headroom.rt say which are looked at). A refusal is a difference.
+// was written stay (answer.rt and headroom.rt say which are looked at). A refusal is a difference, but for a
+// datagram without checksum: it must be refused by 22, and no byte be written.
 //
-// Prints how many cases of each kind came out as in the Rust, the first that differs, if one does, then how
-// many cases there were and how many differ. Case 1 is the first of the file.
+// Prints how many cases of each kind came out as in the Rust, how many were refused as they must be, the first
+// that differs, if one does, then how many cases there were and how many differ. Case 1 is the first of the file.
 mod answer;
 mod fields;
 mod flows;
@@ -27,18 +28,21 @@ use libc::STDIN_FILENO;
 use libc::STDOUT_FILENO;
 ghost use Prim.Native.Nat.{_≤_};
 
-// What came out: the cases so far, those that differ, and the first of them with its kind.
+// What came out: the cases so far, those that were refused as they must be, those that differ, and the first of
+// them with its kind.
 struct Tally {
     cases: u32,
+    refused: u32,
     differ: u32,
     first: u32,
     kind: u8,
 }
 
-// Between two cases: the kind of the last one, what they are calls on, what came out, and where the next one
-// begins.
+// Between two cases: the kind of the last one, whether it must be refused, what they are calls on, what came out,
+// and where the next one begins.
 struct Run {
     kind: u8,
+    retired: bool,
     now: Now,
     tally: Tally,
     at: usize,
@@ -67,16 +71,18 @@ fn noted(t: Tally, number: u32, kind: u8, same: bool) -> Tally {
 }
 
 // The tally with one case more.
-fn counted(t: Tally, kind: u8, same: bool) -> Tally {
+fn counted(t: Tally, kind: u8, retired: bool, same: bool) -> Tally {
     let mut next = t;
+    let refused = retired & same;
     next.cases = std::num::wrapping_add_u32(t.cases, 1);
+    next.refused = std::num::wrapping_add_u32(t.refused, refused as u32);
     noted(next, next.cases, kind, same)
 }
 
 // Counts the last case, if there was one and it came out as in the Rust.
 fn count(counts: &mut [u32; 256], run: Run) {
     let k = run.kind as usize;
-    let one = run.now.same & (run.kind != 0);
+    let one = run.now.same & !run.retired & (run.kind != 0);
     counts[k] = std::num::wrapping_add_u32(counts[k], one as u32);
 }
 
@@ -101,9 +107,11 @@ fn text_size(file: &[u8]) -> usize {
 fn begun(file: &[u8]) -> Run {
     Run {
         kind: 0,
+        retired: false,
         now: state::start(),
         tally: Tally {
             cases: 0,
+            refused: 0,
             differ: 0,
             first: 0,
             kind: 0,
@@ -129,11 +137,14 @@ fn turn(run: Run, file: &[u8], buf: &mut [u8]) -> Run {
         return ended(run);
     }
     let size = body_size(b);
-    let now = family(before, kind, front(back(b, 2), size), buf);
+    let body = front(back(b, 2), size);
+    let now = family(before, kind, body, buf);
+    let retired = udp::is_retired(kind, body);
     Run {
         kind,
+        retired,
         now,
-        tally: counted(tally, kind, now.same),
+        tally: counted(tally, kind, retired, now.same),
         at: std::num::wrapping_add_usize(run.at, 2 + size),
     }
 }
@@ -188,6 +199,7 @@ fn say_counts(counts: &[u32; 256]) {
 }
 
 fn say_tally(t: Tally) {
+    say_number(t.refused, b" datagrams without checksum refused by 22\n");
     if t.differ > 0 {
         say(b"the first that differs: case ");
         say_number(t.first, b", kind ");

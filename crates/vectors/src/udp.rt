@@ -34,6 +34,13 @@ fn is_choice(a: &[u8], frag_off: u16) -> bool {
     (bits < 8) & (other_ip | !has_ip) & (other_frag_off | (frag_off == 0))
 }
 
+// Whether the case asks for a datagram without checksum. The Rust builds it; here it is refused (document 02,
+// T-09).
+pub(crate) fn is_retired(kind: u8, b: &[u8]) -> bool {
+    let bits = fields::byte(payload::behind(kind, b), 0);
+    (kind / 16 == 2) & (bits & 4 == 0)
+}
+
 // The choices that a begins with, and a number for frag_off.
 fn chosen(a: &[u8], frag_off: u16) -> Choices {
     let bits = fields::byte(a, 0);

@@ -1,9 +1,11 @@
-// Document 01's worked examples, run: each line is an example and what the library answers.
+// Document 01's worked examples, and document 02's of UDP without checksum, run: each line is an example and what the
+// library answers.
 use ezpkt::SocketAddrV4;
 use ezpkt::build;
 use ezpkt::build::Built;
 use ezpkt::build::Request;
 use ezpkt::build::TcpSegment;
+use ezpkt::build::UdpDatagram;
 use ezpkt::ip4;
 use ezpkt::ip4::Template;
 use libc::STDOUT_FILENO;
@@ -177,6 +179,32 @@ fn tcp_limits() {
     say_built(build::build(syn_request(), b"", &mut enough));
 }
 
+fn udp_request(csum: bool) -> Request {
+    Request::Udp(UdpDatagram {
+        saddr: CLIENT,
+        daddr: SERVER,
+        sport: 1,
+        dport: 2,
+        frag_off: 0,
+        csum,
+    })
+}
+
+// What is true of all three, and whether a checksum is asked for.
+fn udp_limits(words: &[u8], csum: bool) {
+    let payload = [0u8; 65508];
+    let mut out = [0u8; 30];
+    say(words);
+    say(b", 2 bytes:");
+    say_built(build::build(udp_request(csum), b"\xeb\xd4", &mut out));
+    say(words);
+    say(b", 65,508 bytes:");
+    say_built(build::build(udp_request(csum), &payload, &mut out));
+    say(words);
+    say(b", 2 bytes into 29:");
+    say_built(build::build(udp_request(csum), b"\xeb\xd4", &mut out[0..29]));
+}
+
 fn say_numbers(packets: &[u8]) {
     if packets.len() < 112 {
         return;
@@ -249,6 +277,8 @@ fn main() {
     syn();
     udp_ones();
     tcp_limits();
+    udp_limits(b"UDP with checksum", true);
+    udp_limits(b"UDP without checksum", false);
     flows();
     piece(0, 1);
     piece(2, 1);

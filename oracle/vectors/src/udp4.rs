@@ -1,4 +1,4 @@
-//! Datagrams of a UDP flow.
+//! Datagrams of a UDP flow. Those without checksum are the Rust's alone: this library refuses them.
 
 use crate::MAX_UDP;
 use crate::digest::Fnv;

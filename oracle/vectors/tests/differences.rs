@@ -70,11 +70,18 @@ fn tail_loses_the_length_of_a_payload_too_long() {
 
 #[test]
 fn total_length_wraps_for_udp() {
-    let sent = bytes(udp_flow().client_dgram(&[0; 65_508]));
+    let sent = bytes(udp_flow().client_dgram(&[0; 65_508]).csum());
     assert_eq!((be16(&sent, 2), be16(&sent, 24)), (0, 65_516));
     assert_eq!(sent.len(), 65_536);
-    let sent = bytes(udp_flow().client_dgram(&[0; 65_528]));
+    let sent = bytes(udp_flow().client_dgram(&[0; 65_528]).csum());
     assert_eq!(be16(&sent, 24), 0);
+}
+
+#[test]
+fn udp_without_checksum_is_built() {
+    let sent = bytes(udp_flow().client_dgram(&[]));
+    assert_eq!((sent.len(), be16(&sent, 26)), (28, 0));
+    assert!(header_good(&sent));
 }
 
 #[test]

@@ -18,7 +18,7 @@ pub fn mend(packet: &mut [u8]) {
     }
 }
 
-/// A packet of any kind as it is built.
+/// A packet of any kind as it is built; a datagram at times with its checksum's field set to 0.
 pub fn built(rng: &mut Rng) -> Vec<u8> {
     let size = rng.size(MAX_TCP).min(MAX_TCP);
     let payload = rng.bytes(size);
@@ -27,15 +27,19 @@ pub fn built(rng: &mut Rng) -> Vec<u8> {
     let choices = Choices {
         srcip: None,
         frag_off: rng.pick(&[0, 0, 0, 0x4000, 0x8000, 0x2000, 1]),
-        csum: rng.flip(),
+        csum: true,
     };
-    let n = match rng.below(4) {
+    let kind = rng.below(4);
+    let n = match kind {
         0 => TcpFlow::new(cl, sv, rng.u32(), rng.u32()).client_data_segment(&payload, &mut out),
         1 => UdpFlow::new(cl, sv).client_dgram(&payload, choices, &mut out),
         2 => IcmpFlow::new(*cl.ip(), *sv.ip()).echo(&payload, &mut out),
         _ => pieces::draw(rng).datagram(&payload, &mut out),
     };
     out.truncate(n.expect("there is room, and the payload is short enough"));
+    if kind == 1 && rng.flip() {
+        be16(&mut out, 26, 0);
+    }
     out
 }
 

@@ -1,5 +1,5 @@
 //! What a run must have seen to count: every call of the archive, carried out and refused by every
-//! number that document 01 gives it, every answer that is no refusal, and a piece that was refused
+//! number that the documents give it, every answer that is no refusal, and a piece that was refused
 //! for its protocol alone.
 
 use crate::run::Run;
@@ -12,7 +12,7 @@ const NUMBERS: [(&str, &[u8]); 42] = [
     ("wb_version", &[]),
     ("wb_ip_csum", &[1]),
     ("wb_build_tcp", &[1, 3]),
-    ("wb_build_udp", &[1, 3]),
+    ("wb_build_udp", &[1, 3, 22]),
     ("wb_build_icmp", &[1, 3]),
     ("wb_build_piece", &[1, 2, 3]),
     ("wb_fragment", &[1, 2, 3]),
@@ -38,8 +38,8 @@ const NUMBERS: [(&str, &[u8]); 42] = [
     ("wb_tcp_push_state", &[]),
     ("wb_tcp_pop_state", &[]),
     ("wb_udp_new", &[]),
-    ("wb_udp_client_dgram", &[1, 3]),
-    ("wb_udp_server_dgram", &[1, 3]),
+    ("wb_udp_client_dgram", &[1, 3, 22]),
+    ("wb_udp_server_dgram", &[1, 3, 22]),
     ("wb_icmp_new", &[]),
     ("wb_icmp_echo", &[1, 3]),
     ("wb_icmp_echo_reply", &[1, 3]),

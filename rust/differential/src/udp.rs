@@ -1,11 +1,13 @@
-//! UDP datagrams, as a flow's and as a request, beside the Rust's flow.
+//! UDP datagrams, as a flow's and as a request, beside the Rust's flow. One without checksum, which
+//! the Rust builds, must be refused by 22.
 
 use crate::run::{Compared, Run, expected};
 use pkt::Packet;
 use std::net::SocketAddrV4;
 use vectors::MAX_UDP;
-use wispbundle::{Choices, UdpDatagram, UdpFlow};
+use wispbundle::{Choices, Refusal, UdpDatagram, UdpFlow};
 
+/// The datagram with its checksum.
 fn rust_dgram(flow: &UdpFlow, server: bool, payload: &[u8], choices: Choices) -> Vec<u8> {
     let mut rust = ezpkt::udp4::UdpFlow::new(flow.cl, flow.sv, true);
     let mut dgram = match server {
@@ -15,10 +17,7 @@ fn rust_dgram(flow: &UdpFlow, server: bool, payload: &[u8], choices: Choices) ->
     if let Some(src) = choices.srcip {
         dgram = dgram.srcip(src);
     }
-    dgram = dgram.frag_off(choices.frag_off);
-    if choices.csum {
-        dgram = dgram.csum();
-    }
+    dgram = dgram.frag_off(choices.frag_off).csum();
     Packet::from(dgram).to_vec()
 }
 
@@ -47,7 +46,7 @@ pub fn compare(run: &mut Run) -> Compared {
     let choices = Choices {
         srcip: run.rng.flip().then_some(run.rng.addr()),
         frag_off: if run.rng.flip() { run.rng.u16() } else { 0 },
-        csum: run.rng.flip(),
+        csum: !run.rng.once_in(4),
     };
     if (2..=MAX_UDP).contains(&size) && choices.csum && run.rng.once_in(8) {
         payload[..2].fill(0);
@@ -55,9 +54,12 @@ pub fn compare(run: &mut Run) -> Compared {
         payload[..2].copy_from_slice(&bare[26..28]);
     }
     let room = run.room(28 + size);
-    let rust = expected((size, MAX_UDP), 0, (room, 28 + size), || {
-        rust_dgram(&flow, server, &payload, choices)
-    });
+    let rust = match choices.csum {
+        true => expected((size, MAX_UDP), 0, (room, 28 + size), || {
+            rust_dgram(&flow, server, &payload, choices)
+        }),
+        false => Err(Refusal::NoChecksum),
+    };
     if run.rng.flip() {
         let request = request(&flow, server, choices);
         return run.writes_one("wb_build_udp", room, rust, |out| {

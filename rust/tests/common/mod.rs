@@ -2,7 +2,7 @@
 #![allow(dead_code)]
 
 use std::net::{Ipv4Addr, SocketAddrV4};
-use wispbundle::{Key, Refusal, Template, ip_csum};
+use wispbundle::{Key, Refusal, Template, UdpDatagram, ip_csum};
 
 pub const CLIENT: Ipv4Addr = Ipv4Addr::new(10, 0, 0, 1);
 pub const SERVER: Ipv4Addr = Ipv4Addr::new(10, 0, 0, 2);
@@ -27,6 +27,14 @@ pub fn template() -> Template {
         id: 7,
         protocol: 17,
         ..Template::new(CLIENT, SERVER)
+    }
+}
+
+/// A datagram for which a checksum is asked.
+pub fn datagram(src: SocketAddrV4, dst: SocketAddrV4) -> UdpDatagram {
+    UdpDatagram {
+        csum: true,
+        ..UdpDatagram::new(src, dst)
     }
 }
 

@@ -1,4 +1,4 @@
--- The datagram was asked for where it has room.
+-- The datagram was asked for with a checksum and where it has room.
 use mathlib.Core.Path.{ap, _∙_}
 use borrow.Author.Needs.{needs}
 use Rattle.pkt.specs.Written.{written}
@@ -14,7 +14,8 @@ returns c =
     let at-dgram = at-build .before .before in
     let start = at-dgram .before .before .before in
     let a = start .args in
-    udp-written (at-dgram .dgram .result) (a .bytes .now) (a .scratch .now) _ _ (start .pre .0) (start .pre .1) (at-build .build .ensures)
+    let on = ap (λ (u : UdpDatagram). u .csum) (at-dgram .dgram .ensures) in
+    udp-written (at-dgram .dgram .result) (a .bytes .now) (a .scratch .now) _ _ on (start .pre .0) (start .pre .1) (at-build .build .ensures)
     ∙ ap (λ (u : UdpDatagram). written (udpPacket u (a .bytes .now)) (a .scratch .now)) (at-dgram .dgram .ensures)
 
 pub datagram-spec : {M : Type 1} → statement M

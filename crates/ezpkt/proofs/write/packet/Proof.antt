@@ -1,5 +1,5 @@
 -- What is known to fit for a request fits for the writer of its kind.
-use Rattle.ezpkt.proofs.Deciding.{sized-fits, piece-fits}
+use Rattle.ezpkt.proofs.Deciding.{sized-fits, datagram-fits, piece-fits}
 use borrow.Author.Needs.{needs}
 use Rattle.ezpkt.proofs.write.packet.Statement.{statement}
 use Rattle.ezpkt.proofs.write.packet.Tie as tie
@@ -13,7 +13,7 @@ tcp-requires c κs =
 udp-requires : tie.Need-udp-requires
 udp-requires c κs =
     let e = rw (c .before .before .req2 .given .1) at (c .before .before .before .before .before .before .pre) in
-    let f = sized-fits 65507 28 _ _ _ e in
+    let f = datagram-fits (c .before .before .req2 .given .0 .0) _ _ _ e in
     (f .few, f .room-for)
 
 echo-requires : tie.Need-echo-requires

@@ -1,11 +1,8 @@
--- The three parts stand end to end, with the checksum's field between.
-use Rattle.pkt.specs.Rfc768.{udpHeader}
-use Rattle.ezpkt.specs.Build.{udpPacket, udpHdr}
-use Rattle.pkt.specs.Written.{written}
+-- The checksum was not refused, and the three parts stand end to end.
+use Rattle.ezpkt.specs.Build.{udpPacket}
+use Rattle.pkt.proofs.Deciding.{summed-is}
 use lib.ListN.{length}
-use mathlib.Core.List.{List, _++_}
-use Prim.Native.Nat.{ℕ}
-use mathlib.Core.Path.{ap, ap₂, _∙_}
+use mathlib.Core.Path.{_∙_}
 use borrow.Author.Needs.{needs}
 use Rattle.ezpkt.proofs.write.udp.Statement.{statement}
 use Rattle.ezpkt.proofs.write.udp.Tie as tie
@@ -16,13 +13,11 @@ returns c =
     let at-put = c .before .before in
     let at-head = at-put .before .before .before .before in
     let at-ip = at-head .before in
-    let at-field = at-ip .before in
-    let a = at-field .before .before .before .args in
-    let p : List ℕ = a .payload .now in
-    at-put .put-all .ensures
-    ∙ ap₂ (λ (x y : List ℕ). written (x ++ (y ++ p)) (a .out .now))
-    (at-ip .flow-ip .ensures)
-    (at-head .to-bytes .ensures ∙ ap (udpHeader (udpHdr (a .u) (length p))) (at-field .udp-field .ensures))
+    let at-number = at-ip .before in
+    let at-csum = at-number .before in
+    let start = at-csum .before .before .before in
+    let csum = summed-is (at-csum .udp-csum .result) 65507 (length (start .args .payload .now)) _ (at-csum .udp-csum .ensures) (start .pre .0) in
+    simp (at-put .put-all .ensures, at-head .to-bytes .ensures, at-ip .flow-ip .ensures, at-number .number .ensures ∙ csum)
 
 pub udp-spec : {M : Type 1} → statement M
 udp-spec =
@@ -30,6 +25,7 @@ udp-spec =
     (tie.spec
     (λ c. search needs)
     (λ c. search needs)
+    (λ c κs. search needs)
     (λ c κs. search needs)
     (λ c. search needs)
     (λ c. search needs)
