@@ -2,10 +2,12 @@
 use crate::words::say;
 use crate::words::say_bytes;
 use crate::words::say_change;
+use crate::words::say_checked;
 use crate::words::say_number;
 use crate::words::say_untouched;
 use ezpkt::part::back;
 use ezpkt::part::front;
+use inspect::check;
 use mending::Mended;
 ghost use Prim.Native.Nat.{_≤_, _<_};
 ghost use lib.ListN.{length};
@@ -110,12 +112,14 @@ fn taken(s: &[u8]) -> usize
     if s.len() < n { s.len() } else { n }
 }
 
-// A line for that record: how long its packet is, and its bytes, of a long one the first 64.
+// A line for that record: how long its packet is, what the check answers, and its bytes, of a long one the first 64.
 fn say_packet(s: &[u8]) {
     let n = size(s) as usize;
+    let packet = front(back(s, 16), n);
     say_number(b"  ", n);
-    say(b" bytes:");
-    say_bytes(front(front(back(s, 16), n), 64));
+    say(b" bytes, ");
+    say_checked(check::check(packet));
+    say_bytes(front(packet, 64));
     say(b"\n");
 }
 

@@ -1,4 +1,5 @@
 // What is written: words, numbers, bytes and changes.
+use inspect::check::Checked;
 use libc::STDOUT_FILENO;
 
 // Words alone.
@@ -47,6 +48,18 @@ pub(crate) fn say_change(change: [usize; 4]) {
     say_sum(b": was 0x", change[2]);
     say_sum(b", is now 0x", change[3]);
     say(b"\n");
+}
+
+// What the check answers.
+pub(crate) fn say_checked(answer: Checked) {
+    match answer {
+        Checked::Good => say(b"good:"),
+        Checked::NoChecksum => say(b"good without checksum:"),
+        Checked::Refused(n) => {
+            say_number(b"refused ", n as usize);
+            say(b":");
+        }
+    }
 }
 
 // The end of an answer's line.
