@@ -113,12 +113,12 @@ fn checksum_zero(file: &mut File, rng: &mut Rng) {
     }
 }
 
-/// All 65,536 fragment fields, one packet behind the other.
-fn every_frag_off(file: &mut File, rng: &mut Rng, server: bool, csum: bool, n: usize) {
+/// All 65,536 fragment fields, one packet with a checksum behind the other.
+fn every_frag_off(file: &mut File, rng: &mut Rng, server: bool, n: usize) {
     let (ends, payload) = (Ends::draw(rng), rng.payload(n));
     let (mut total, mut digest) = (0, Fnv::new());
     let mut choices = Choices {
-        csum,
+        csum: true,
         ..Choices::default()
     };
     for field in 0..=u16::MAX {
@@ -144,7 +144,7 @@ fn anything(file: &mut File, rng: &mut Rng) {
 pub fn write(file: &mut File, rng: &mut Rng) {
     combinations(file, rng);
     checksum_zero(file, rng);
-    every_frag_off(file, rng, false, true, 9);
-    every_frag_off(file, rng, true, false, 4);
+    every_frag_off(file, rng, false, 9);
+    every_frag_off(file, rng, true, 4);
     anything(file, rng);
 }
