@@ -1,4 +1,2 @@
-pub mod Examples
 pub mod Putting
 pub mod Reading
-pub mod Texts

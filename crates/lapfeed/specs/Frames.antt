@@ -9,7 +9,7 @@ use Rattle.pcap.specs.Pcap.{recordsBytes}
 use Rattle.feed.specs.declared.Feed.{Feed}
 use Rattle.feed.specs.declared.Written.{Written}
 use Rattle.feed.specs.Feed.{leastLink, mostLink, nextFeed, writtenFor, frameSize, frameRecords}
-use Rattle.lapfeed.specs.declared.words.Setup.{Setup}
+use Rattle.lapfeed.specs.declared.setup.Setup.{Setup}
 use Rattle.lapfeed.specs.declared.Turn.{Turn}
 use Rattle.lapfeed.specs.declared.Turn.the-variants.{More, Done}
 

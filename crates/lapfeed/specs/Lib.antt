@@ -1,4 +1,3 @@
-pub mod Examples
 pub mod Frames
 pub mod Steps
 pub mod Words

@@ -1,14 +1,14 @@
 // Reads telemetry, and writes a capture of the datagrams that carry it from a car to the core, a frame at a time.
 mod frames;
-mod words;
+mod setup;
 
 use feed::Feed;
 use libc::STDERR_FILENO;
 use libc::STDIN_FILENO;
 use libc::STDOUT_FILENO;
 use pkt::limit;
-use words::Setup;
-use words::Words;
+use setup::Setup;
+use setup::Words;
 ghost use Prim.Native.Nat.{_≤_};
 ghost use lib.ListN.{length};
 ghost use Rattle.lapfeed.specs.Frames.{Ready, Follows, SetUp};
@@ -135,7 +135,7 @@ fn main() {
         say_wanted();
         return;
     }
-    match words::read_words(&car[..a], &core[..b], &link[..c], &size[..d]) {
+    match setup::read_words(&car[..a], &core[..b], &link[..c], &size[..d]) {
         Words::Good(setup) => run(setup),
         Words::Wrong => say_wanted(),
     }
