@@ -23,10 +23,10 @@ use Rattle.feed.specs.Feed.{frameDgram, templateOf, payloadOf, framePackets}
 use Rattle.feed.proofs.Cutting.{pieces-within}
 use Rattle.inspect.specs.Check.{ofMany, isPiece}
 use Rattle.inspect.specs.Encoded.{readOf}
+use Rattle.inspect.proofs.Numbers.{take-bytes, drop-bytes}
 use Rattle.mending.specs.Sums.{sumsIn, mendPacket}
 use Rattle.mending.specs.Packets.{AllRight}
 use Rattle.mending.proofs.Encoded.{udp-bytes, udp-mended}
-use Rattle.mending.proofs.Renewed.{take-bytes, drop-bytes}
 use Rattle.demands.specs.Laps.{FrameFed}
 use Rattle.demands.proofs.Pieces.{piece-evil, piece-fit, piece-read}
 use Rattle.demands.proofs.Checked.{whole-piece}

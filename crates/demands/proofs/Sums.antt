@@ -29,10 +29,10 @@ use Rattle.ezpkt.proofs.Deciding.{sized-fits, datagram-fits}
 use Rattle.inspect.specs.Check.{isPiece}
 use Rattle.inspect.specs.Encoded.{readOf}
 use Rattle.inspect.proofs.Decoding.{Fit}
+use Rattle.inspect.proofs.Numbers.{take-bytes, drop-bytes}
 use Rattle.mending.specs.Sums.{sumsIn, mendPacket}
 use Rattle.mending.specs.Packets.{AllRight}
 use Rattle.mending.proofs.Packets.{packets-mended}
-use Rattle.mending.proofs.Renewed.{take-bytes, drop-bytes}
 use Rattle.mending.proofs.Encoded.{ip-bytes, evil-kept, piece-kept, tcp-size, tcp-bytes, tcp-mended, udp-size, udp-bytes, udp-mended, echo-size, echo-bytes, echo-mended}
 use Rattle.demands.specs.Ranges.{Between}
 use Rattle.demands.specs.Mending.{Asked, Transport, Whole, readdressed, between}

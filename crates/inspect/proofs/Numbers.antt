@@ -47,7 +47,14 @@ value-below (suc k) acc (x ∷ l) b =
     let e : (acc + 1) * 256 ^ suc k ≡ (acc + 1) * 256 * 256 ^ k = rw (pow-succ' 256 k) (sym (mul-assoc (acc + 1) 256 (256 ^ k))) in
     rw e (lt-of-lt-of-le (value-below k (acc * 256 + x) l (λ i. b (suc i))) (mul-le-mul-right (256 ^ k) most))
 
-drop-bytes : (n : ℕ) (l : List ℕ) → Bytes l → Bytes (drop n l)
+-- Bytes of a part are bytes.
+pub take-bytes : (n : ℕ) (l : List ℕ) → Bytes l → Bytes (take n l)
+take-bytes zero l b i = omega arith
+take-bytes (suc n) [] b i = omega arith
+take-bytes (suc n) (a ∷ l) b zero = b 0
+take-bytes (suc n) (a ∷ l) b (suc i) = take-bytes n l (λ j. b (suc j)) i
+
+pub drop-bytes : (n : ℕ) (l : List ℕ) → Bytes l → Bytes (drop n l)
 drop-bytes n l b i = rw (getD-drop n l i 0) (b (n + i))
 
 pub field-below : (at k : ℕ) (l : List ℕ) → Bytes l → fieldAt l at k < 256 ^ k

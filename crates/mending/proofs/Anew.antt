@@ -21,10 +21,11 @@ use Rattle.inspect.specs.Check.{unlessBad, verdictOf, checkAnswer}
 use Rattle.inspect.specs.declared.header.IpRead.{IpRead}
 use Rattle.inspect.specs.declared.check.Kind.{Kind}
 use Rattle.inspect.specs.declared.check.Kind.the-variants.{Tcp, Udp, Bare, Icmp}
+use Rattle.inspect.proofs.Numbers.{take-bytes, drop-bytes}
 use Rattle.inspect.proofs.Reading.{framed}
 use Rattle.mending.specs.Packets.{verdictFor, AllWithin, AllRight}
 use Rattle.mending.specs.Sums.{renewed, ipSum, behindPseudo, partFields, fieldsOf, putFields}
-use Rattle.mending.proofs.Renewed.{renewed-length, renewed-bytes, take-bytes, drop-bytes, renewed-again, renewed-same, take-before, take-within, field-before, field-behind, field-here}
+use Rattle.mending.proofs.Renewed.{renewed-length, renewed-bytes, renewed-again, renewed-same, take-before, take-within, field-before, field-behind, field-here}
 use Rattle.mending.proofs.Summing.{renewed-verifies, behind-verifies, behind-verifies-nonzero}
 use Rattle.mending.proofs.Wholes.{Shape, tcp, udp, bare, icmp, sumAt, shape-long, Known, data-length, sum-within, checked}
 use Rattle.mending.proofs.Kept.{frame-kept, data-kept, data-renewed, data-field}

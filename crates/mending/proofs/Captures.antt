@@ -11,13 +11,13 @@ use Rattle.pkt.proofs.Choice.{pick-yes, pick-no}
 use Rattle.pcap.specs.Pcap.{fileHeader}
 use Rattle.pcap.specs.Read.{Recorded, whole, recordsIn, recordsOf}
 use Rattle.pcap.proofs.Pcap.{file-header-length}
+use Rattle.inspect.proofs.Numbers.{drop-bytes}
 use Rattle.reading.specs.Reading.{startsWith, headerSize}
 use Rattle.reading.proofs.Stepping.{steps-read}
 use Rattle.mending.specs.Packets.{PacketsMended}
 use Rattle.mending.proofs.Packets.{packets-mended}
 use Rattle.mending.specs.Mend.{Listed, sumsFrom, sumsOf, putSums, mend, changesOf, changes}
 use Rattle.mending.specs.Captures.{AllHold, mendRecords, AllGood, CapturesMended}
-use Rattle.mending.proofs.Renewed.{drop-bytes}
 use Rattle.mending.proofs.Placing.{put-length, put-bytes, AllFrom, put-front}
 use Rattle.mending.proofs.Laid.{Laid, laid, sumsBy, sums-laid, sums-from}
 use Rattle.mending.proofs.Records.{mendedBy, put-laid, mended-length, still, mended-twice, none-again, wholeOf, records-mended, good-mended}

@@ -14,6 +14,7 @@ use Rattle.pkt.specs.Written.{written, over, leaves}
 use Rattle.pkt.proofs.Choice.{or-no}
 use Rattle.pkt.proofs.Written.{copy-written}
 use Rattle.pcap.specs.Read.{Recorded}
+use Rattle.inspect.proofs.Numbers.{take-bytes, drop-bytes}
 use Rattle.reading.specs.Reading.{Next, openAt, stepSays, spotAt, stepAt, moreAt, pastAt}
 use Rattle.reading.specs.Ends.{recordsAnswer, toTheEnd}
 use Rattle.reading.proofs.Ending.{steps-end}
@@ -27,7 +28,7 @@ use Rattle.mending.specs.declared.Passed.{Passed}
 use Rattle.mending.proofs.Packets.{packets-mended}
 use Rattle.mending.proofs.Passing.{found-is, spot-within, sums-turn, sums-end}
 use Rattle.mending.proofs.Placing.{put-length}
-use Rattle.mending.proofs.Renewed.{renewed-length, renewed-front, take-bytes, drop-bytes}
+use Rattle.mending.proofs.Renewed.{renewed-length, renewed-front}
 
 -- ---- an answer that is no refusal
 

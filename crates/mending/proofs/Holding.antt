@@ -18,14 +18,14 @@ use Rattle.inspect.specs.Check.{examineAnswer}
 use Rattle.inspect.specs.declared.header.IpRead.{IpRead}
 use Rattle.inspect.specs.declared.check.Kind.{Kind}
 use Rattle.inspect.specs.declared.check.Kind.the-variants.{Tcp, Udp, Bare, Icmp}
-use Rattle.inspect.proofs.Numbers.{field-front}
+use Rattle.inspect.proofs.Numbers.{drop-bytes, field-front}
 use Rattle.inspect.proofs.Reading.{framed}
 use Rattle.mending.specs.Sums.{renewed, ipSum, fieldOf, partFields, fieldsOf, sumsIn, putFields, mendPacket}
 use Rattle.mending.specs.Packets.{AllWithin, PacketsMended}
 use Rattle.mending.specs.Mend.{Listed, listed, putSums}
 use Rattle.mending.specs.Captures.{Covers, Unlisted, AllHold}
 use Rattle.mending.specs.declared.sums.SumField.{SumField}
-use Rattle.mending.proofs.Renewed.{renewed-length, drop-bytes, field-before, field-here, field-drop}
+use Rattle.mending.proofs.Renewed.{renewed-length, field-before, field-here, field-drop}
 use Rattle.mending.proofs.Wholes.{known}
 use Rattle.mending.proofs.Placing.{put-length, put-bytes, Missed, put-missed}
 use Rattle.mending.proofs.Laid.{Laid, stops, goes, sumsBy}

@@ -7,6 +7,7 @@ use lib.ListN.{length, take, drop, set, length-drop}
 use lib.Seq.{sets, length-take-le}
 use borrow.Author.Tests.{eq-eqb, ne-eqb}
 use Rattle.pkt.specs.Fields.{Bytes}
+use Rattle.inspect.proofs.Numbers.{take-bytes, drop-bytes}
 use Rattle.reading.specs.declared.Spot.{Spot}
 use Rattle.mending.specs.Sums.{renewed, sumsIn}
 use Rattle.mending.specs.Packets.{AllWithin}
@@ -17,7 +18,6 @@ use Rattle.mending.proofs.Changes.{changed-no, changed-yes, changes-app
 use Rattle.mending.proofs.Packets.{packets-mended}
 use Rattle.mending.proofs.Passing.{sums-few}
 use Rattle.mending.proofs.Placing.{put-append}
-use Rattle.mending.proofs.Renewed.{take-bytes, drop-bytes}
 
 -- ---- what is put
 

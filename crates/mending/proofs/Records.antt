@@ -12,12 +12,12 @@ use borrow.Author.Tests.{eq-eqb}
 use Rattle.pkt.specs.Fields.{Bytes}
 use Rattle.pkt.proofs.Choice.{pick-yes, pick-no}
 use Rattle.pcap.specs.Read.{Recorded, Records, whole, brokenAfter, inFront, number, isBroken, recordsIn}
+use Rattle.inspect.proofs.Numbers.{take-bytes, drop-bytes}
 use Rattle.mending.specs.Sums.{sumsIn, mendPacket}
 use Rattle.mending.specs.Packets.{AllRight, PacketsMended}
 use Rattle.mending.specs.Mend.{Listed, listed, putSums, changesOf}
 use Rattle.mending.specs.Captures.{mendRecord, mendRecords, AllGood}
 use Rattle.mending.specs.declared.sums.SumField.{SumField}
-use Rattle.mending.proofs.Renewed.{take-bytes, drop-bytes}
 use Rattle.mending.proofs.Placing.{put-listed, put-append}
 use Rattle.mending.proofs.Laid.{Laid, stops, goes, recordOf, laid-rest, laid-whole, laid-some, laid-record, sumsBy}
 

@@ -5,7 +5,7 @@ use native.Mathlib.Omega.{arith}
 use native.Mathlib.Numerals.{add-one, add-two}
 use mathlib.Core.List.{List, [], _∷_, _++_, append-assoc}
 use lib.ListN.{length, getD, take, drop, set, length-set, take-append-drop}
-use lib.Seq.{sets-eq, set-append-left, set-set, set-comm, take-set-le, take-set-lt, drop-set-lt, drop-set-add, drop-cons, getD-drop, getD-set-same, getD-set-other, take-take, drop-drop}
+use lib.Seq.{sets-eq, set-append-left, set-set, set-comm, take-set-le, take-set-lt, drop-set-lt, drop-set-add, drop-cons, getD-set-same, getD-set-other, take-take, drop-drop}
 use Rattle.pkt.specs.Fields.{be, value, Bytes}
 use Rattle.pkt.proofs.Checksum.{around}
 use Rattle.inspect.specs.Header.{fieldAt}
@@ -36,15 +36,6 @@ renewed-bytes i x l b =
     let high : x / 256 % 256 < 256 = omega arith in
     let low : x % 256 < 256 = omega arith in
     set-bytes (set l i (x / 256 % 256)) (i + 1) (x % 256) (set-bytes l i (x / 256 % 256) b high) low
-
-pub take-bytes : (n : ℕ) (l : List ℕ) → Bytes l → Bytes (take n l)
-take-bytes zero l b i = omega arith
-take-bytes (suc n) [] b i = omega arith
-take-bytes (suc n) (a ∷ l) b zero = b 0
-take-bytes (suc n) (a ∷ l) b (suc i) = take-bytes n l (λ j. b (suc j)) i
-
-pub drop-bytes : (n : ℕ) (l : List ℕ) → Bytes l → Bytes (drop n l)
-drop-bytes n l b i = rw (getD-drop n l i 0) (b (n + i))
 
 -- ---- two numbers
 

@@ -14,11 +14,11 @@ use Rattle.pkt.specs.Sums.{total, canon}
 use Rattle.pkt.proofs.Checksum.{checksum-total, total-append, verifies, verifies-nonzero}
 use Rattle.inspect.specs.Header.{fieldAt, frameAnswer}
 use Rattle.inspect.specs.declared.header.IpRead.{IpRead}
-use Rattle.inspect.proofs.Numbers.{field-one, field-below}
+use Rattle.inspect.proofs.Numbers.{field-one, take-bytes, drop-bytes, field-below}
 use Rattle.inspect.proofs.Reading.{framed}
 use Rattle.inspect.proofs.Whole.{behind-pseudo}
 use Rattle.mending.specs.Sums.{renewed, PartAsks}
-use Rattle.mending.proofs.Renewed.{renewed-around, renewed-bytes, take-bytes, drop-bytes, renewed-behind, renewed-same, field-before, field-take, field-drop, two-here}
+use Rattle.mending.proofs.Renewed.{renewed-around, renewed-bytes, renewed-behind, renewed-same, field-before, field-take, field-drop, two-here}
 
 -- ---- a word is given back
 
