@@ -3,14 +3,14 @@ use mathlib.Core.Path.{_≡_, refl, sym, ap, _∙_}
 use mathlib.Core.Bool.{Bool, true, false, cond}
 use Prim.Native.Nat.{ℕ, _+_, _≤_, _<_}
 use native.Mathlib.Omega.{arith}
-use mathlib.Core.List.{List, [], _++_}
+use mathlib.Core.List.{List, _++_}
 use lib.ListN.{length, take, drop, length-append}
 use borrow.Author.Tests.{le-ltb, eq-eqb, ne-eqb}
 use Rattle.pkt.specs.Answers.{Answer, refused, gives, andThen}
 use Rattle.pkt.specs.Fields.{field, Bytes, widths}
 use Rattle.pkt.specs.Rfc1071.{words, sum, checksum, verifies}
 use Rattle.pkt.specs.Rfc768.{pseudo, udpFields, udpHeader, udpChecksum}
-use Rattle.pkt.specs.Rfc9293.{tcpFields, tcpHeader, tcpChecksum}
+use Rattle.pkt.specs.Rfc9293.{tcpHeader, tcpChecksum}
 use Rattle.pkt.specs.Rfc792.{echoHeader, echoChecksum}
 use Rattle.pkt.specs.declared.ipv4.«tcp_hdr».{«tcp_hdr»}
 use Rattle.pkt.specs.declared.ipv4.«udp_hdr».{«udp_hdr»}
@@ -19,13 +19,13 @@ use Rattle.pkt.specs.declared.ipv4.«icmp_echo_hdr».{«icmp_echo_hdr»}
 use Rattle.pkt.proofs.Checksum.{checksum-most, nonzero-range}
 use Rattle.pkt.proofs.Fields.{field-at}
 use Rattle.pkt.proofs.Headers.{tcp-length, udp-length, echo-length, tcp-verifies, udp-verifies, echo-verifies}
-use Rattle.inspect.specs.Answers.{Verdict, good, noChecksum}
+use Rattle.inspect.specs.Answers.{Verdict, good}
 use Rattle.inspect.specs.Header.{fieldAt}
 use Rattle.inspect.proofs.Standing.{sums-stand, tcp-offset}
 use Rattle.inspect.specs.Check.{isPiece, isOther, isCut, kindOf, wholeAnswer, unlessBad, verdictOf, partAnswer}
 use Rattle.inspect.specs.declared.header.IpRead.{IpRead}
 use Rattle.inspect.specs.declared.check.Kind.{Kind}
-use Rattle.inspect.specs.declared.check.Kind.the-variants.{Tcp, Udp, Bare, Icmp}
+use Rattle.inspect.specs.declared.check.Kind.the-variants.{Tcp, Udp, Icmp}
 
 -- the decision between 13, 12, 14 and a kind
 choose : Bool → Bool → Bool → Kind → Answer Kind
@@ -103,14 +103,6 @@ module _ (h : IpRead) (p : List ℕ) (bp : Bytes p) (piece : isPiece h ≡ false
       let some = ne-eqb (fieldAt d 6 2) 0 (λ z. udp-checksum-some (h .saddr) (h .daddr) u p (sym sent ∙ z)) in
       whole-summed h 17 d Udp piece seventeen refl (udp-whole u c p len few) (simp some)
       ∙ verified (pseudo (h .saddr) (h .daddr) 17 (length d) ++ d) (rw size (udp-verifies (h .saddr) (h .daddr) p bp u))
-
-  -- a UDP datagram with none
-  pub udp-bare : (u : «udp_hdr») → h .protocol ≡ 17 → u .len ≡ 8 + length p → u .len < 65536 → partAnswer h (udpHeader u 0 ++ p) ≡ gives noChecksum
-  unfolding verdictOf
-  udp-bare u seventeen len few =
-      let d : List ℕ = udpHeader u 0 ++ p in
-      let none = eq-eqb (fieldAt d 6 2) 0 (sums-stand .udp u 0 p (omega arith)) in
-      whole-summed h 17 d Bare piece seventeen refl (udp-whole u 0 p len few) (simp none)
 
   -- an echo
   pub echo-good : (i : «icmp_hdr») (e : «icmp_echo_hdr») → h .protocol ≡ 1 → partAnswer h (echoHeader i e (echoChecksum i e p) ++ p) ≡ gives good

@@ -29,13 +29,13 @@ use Rattle.inspect.specs.Encoded.{readOf}
 use Rattle.inspect.specs.Header.{fieldAt, frameAnswer, summed, unreserved, readAnswer, dataOf}
 use Rattle.inspect.specs.declared.header.IpRead.{IpRead}
 use Rattle.inspect.specs.declared.check.Kind.{Kind}
-use Rattle.inspect.specs.declared.check.Kind.the-variants.{Tcp, Udp, Bare, Icmp}
+use Rattle.inspect.specs.declared.check.Kind.the-variants.{Tcp, Udp, Icmp}
 use Rattle.inspect.proofs.Decoding.{Fit, decoded}
 use Rattle.inspect.proofs.Reading.{was-read}
 use Rattle.inspect.proofs.Standing.{sums-stand, tcp-offset}
 use Rattle.mending.specs.Sums.{renewed, ipSum, mendPacket}
 use Rattle.mending.proofs.Renewed.{renewed-behind, renewed-front}
-use Rattle.mending.proofs.Wholes.{Shape, tcp, udp, bare, icmp, sumAt, shape-long, Known, examined}
+use Rattle.mending.proofs.Wholes.{Shape, tcp, udp, icmp, sumAt, shape-long, Known, examined}
 use Rattle.mending.proofs.Kept.{frame-kept}
 use Rattle.mending.proofs.Anew.{partSum, mended}
 use Rattle.mending.proofs.Packets.{refused-stays, mended-is}
@@ -215,18 +215,6 @@ module _ (h : «ip_hdr») (fit : Fit h) (clear : readOf h .evil ≡ false) (piec
       encoded-mended h fit x d r total clear Udp piece shape (udp-bytes p c u bp) br
       ∙ ap (λ (y : ℕ). ipHeader h ++ (renewed 6 y d ++ r)) (udp-sum-is p c h u)
       ∙ ap (λ (m : List ℕ). ipHeader h ++ (m ++ r)) (udp-renewed p c u (udpChecksum (h .saddr) (h .daddr) u p))
-
-  -- a UDP datagram with none: the field of 0 stays
-  pub bare-mended : (u : «udp_hdr») → h .protocol ≡ 17 → u .len ≡ 8 + length p → h .«tot_len» ≡ 20 + length (udpHeader u 0 ++ p)
-      → mendPacket (ipBytes h x ++ ((udpHeader u 0 ++ p) ++ r)) ≡ ipHeader h ++ ((udpHeader u 0 ++ p) ++ r)
-  unfolding partSum
-  bare-mended u seventeen len total =
-      let d : List ℕ = udpHeader u 0 ++ p in
-      let size = udp-size p 0 u in
-      let shape : Shape (readOf h .protocol) d Bare =
-      bare (protocol-is h ∙ seventeen) (omega arith) (udp-len p 0 u (omega (arith, fit .total)) len) (sums-stand .udp u 0 p (omega arith)) in
-      encoded-mended h fit x d r total clear Bare piece shape (udp-bytes p 0 u bp) br
-      ∙ ap (λ (m : List ℕ). ipHeader h ++ (m ++ r)) (udp-renewed p 0 u 0)
 
   -- an echo
   pub echo-mended : (i : «icmp_hdr») (e : «icmp_echo_hdr») (c : ℕ) → h .protocol ≡ 1 → h .«tot_len» ≡ 20 + length (echoHeader i e c ++ p)
