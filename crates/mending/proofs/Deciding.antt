@@ -15,12 +15,12 @@ use Rattle.pkt.proofs.Choice.{or-no}
 use Rattle.pkt.proofs.Written.{copy-written}
 use Rattle.pcap.specs.Read.{Recorded}
 use Rattle.inspect.proofs.Numbers.{take-bytes, drop-bytes}
-use Rattle.reading.specs.Reading.{Next, openAt, stepSays, spotAt, stepAt, moreAt, pastAt}
+use Rattle.reading.specs.Reading.{Next, openAt, stepSays, spotAt, packetAt, stepAt, moreAt, pastAt}
 use Rattle.reading.specs.Ends.{recordsAnswer, toTheEnd}
 use Rattle.reading.proofs.Ending.{steps-end}
 use Rattle.mending.specs.Sums.{renewed, sumsIn}
 use Rattle.mending.specs.Packets.{AllWithin}
-use Rattle.mending.specs.Mend.{Listed, listed, packetAt, sumsAt, sumsFrom, sumsOf, putSums, mend, changes, Counts, counts, mendedSays, roomAnswer, andThenAll, mendAnswer, rowsAfter, Mends}
+use Rattle.mending.specs.Mend.{Listed, listed, sumsAt, sumsFrom, sumsOf, putSums, mend, changes, Counts, counts, mendedSays, roomAnswer, andThenAll, mendAnswer, rowsAfter, Mends}
 use Rattle.mending.specs.Pass.{Passes, answerAfter}
 use Rattle.mending.specs.declared.sums.SumField.{SumField}
 use Rattle.mending.specs.declared.Mended.{Mended}

@@ -16,12 +16,12 @@ use Rattle.inspect.specs.Check.{examineAnswer}
 use Rattle.inspect.specs.declared.header.IpRead.{IpRead}
 use Rattle.inspect.specs.declared.check.Kind.{Kind}
 use Rattle.inspect.specs.declared.check.Kind.the-variants.{Tcp, Udp, Bare, Icmp}
-use Rattle.reading.specs.Reading.{found, openAt, stepSays, spotAt, stepAt, moreAt, pastAt, countPast}
+use Rattle.reading.specs.Reading.{found, openAt, stepSays, spotAt, packetAt, stepAt, moreAt, pastAt, countPast}
 use Rattle.reading.specs.Ends.{lastFrom, lastOf}
 use Rattle.reading.proofs.Broken.{broken-no, more-yes}
 use Rattle.reading.proofs.Stepping.{steps-read}
 use Rattle.mending.specs.Sums.{partFields, fieldsOf, sumsIn}
-use Rattle.mending.specs.Mend.{Listed, listed, packetAt, sumsAt, sumsFrom, sumsOf, putSums, changesOf}
+use Rattle.mending.specs.Mend.{Listed, listed, sumsAt, sumsFrom, sumsOf, putSums, changesOf}
 use Rattle.mending.specs.Pass.{StepAsks, Passes}
 use Rattle.mending.specs.declared.sums.SumField.{SumField}
 use Rattle.mending.specs.declared.Passed.{Passed}

@@ -8,10 +8,11 @@ use lib.Seq.{sets, length-take-le}
 use borrow.Author.Tests.{eq-eqb, ne-eqb}
 use Rattle.pkt.specs.Fields.{Bytes}
 use Rattle.inspect.proofs.Numbers.{take-bytes, drop-bytes}
+use Rattle.reading.specs.Reading.{packetAt}
 use Rattle.reading.specs.declared.Spot.{Spot}
 use Rattle.mending.specs.Sums.{renewed, sumsIn}
 use Rattle.mending.specs.Packets.{AllWithin}
-use Rattle.mending.specs.Mend.{Listed, listed, packetAt, changeOf, putSums, changesOf}
+use Rattle.mending.specs.Mend.{Listed, listed, changeOf, putSums, changesOf}
 use Rattle.mending.specs.Pass.{Put, SumsAsk, PutAsks}
 use Rattle.mending.specs.declared.sums.SumField.{SumField}
 use Rattle.mending.proofs.Changes.{changed-no, changed-yes, changes-append, changes-few, changes-count, sets-append}

@@ -2,13 +2,12 @@
 use Prim.Native.Nat.{ℕ, zero, suc, _+_}
 use mathlib.Core.Bool.{_||_, cond}
 use mathlib.Core.List.{List, [], _∷_, _++_}
-use lib.ListN.{length, take, drop}
+use lib.ListN.{length}
 use lib.Dec.{ltb, eqb}
 use Rattle.pkt.specs.Answers.{ListAnswer, refusedWhole, refusedAt, givesAll, plainly}
 use Rattle.pkt.specs.Written.{over, leaves, Promise}
-use Rattle.reading.specs.Reading.{Next, ended, found, openAt, stepAt, moreAt, pastAt}
+use Rattle.reading.specs.Reading.{Next, ended, found, openAt, packetAt, stepAt, moreAt, pastAt}
 use Rattle.reading.specs.Ends.{recordsAnswer}
-use Rattle.reading.specs.declared.Spot.{Spot}
 use Rattle.mending.specs.Sums.{renewed, sumsIn}
 use Rattle.mending.specs.declared.sums.SumField.{SumField}
 use Rattle.mending.specs.declared.Mended.{Mended}
@@ -26,10 +25,6 @@ pub record Listed : Type 0 where
 abbrev pub listed : ℕ → ℕ → ℕ → List SumField → List Listed
 listed k which start [] = []
 listed k which start (f ∷ fs) = record { number = k; which = which; at = start + f .at; old = f .old; new = f .new } ∷ listed k (suc which) start fs
-
--- the packet that a step found in l
-abbrev pub packetAt : List ℕ → Spot → List ℕ
-packetAt l s = take (s .len) (drop (s .start) l)
 
 -- the fields that are worked out anew in the record that a step found: "record number (from 0), which field (IPv4 first)"
 unfoldable pub sumsAt : List ℕ → ListAnswer Next → List Listed

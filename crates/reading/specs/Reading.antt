@@ -2,7 +2,7 @@
 use Prim.Native.Nat.{ℕ, _+_, _%_, _^_}
 use mathlib.Core.Bool.{Bool, true, false, _&&_, not, cond}
 use mathlib.Core.List.{List, [], _∷_}
-use lib.ListN.{length, drop}
+use lib.ListN.{length, take, drop}
 use lib.Dec.{ltb, eqb}
 use denote.Ref.{now}
 use Rattle.pkt.specs.Answers.{ListAnswer, refusedWhole, refusedAt, givesAll}
@@ -50,6 +50,10 @@ spotAt l at k =
       len = number 4 8 (drop at l);
       original = recordAt (drop at l) .original;
     }
+
+-- the packet that a step found in l
+abbrev pub packetAt : List ℕ → Spot → List ℕ
+packetAt l s = take (s .len) (drop (s .start) l)
 
 -- A step at a place of l, behind k records: "23 if the capture header is not document 01's", the end, "25 with the record number if a record is
 -- cut short or above 65,535 bytes", or the record.

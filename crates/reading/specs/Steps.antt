@@ -7,12 +7,12 @@ use lib.ListN.{length, take, drop}
 use Rattle.pkt.specs.Answers.{refusedWhole, refusedAt, givesAll}
 use Rattle.pcap.specs.Pcap.{fileHeader}
 use Rattle.pcap.specs.Read.{Recorded, Records, whole, brokenAfter, inFront, recordsOf}
-use Rattle.reading.specs.Reading.{startsWith, headerSize, openAt, ended, found, stepAt, moreAt, pastAt, countPast}
+use Rattle.reading.specs.Reading.{startsWith, headerSize, openAt, ended, found, packetAt, stepAt, moreAt, pastAt, countPast}
 use Rattle.reading.specs.declared.Spot.{Spot}
 
 -- the record that a step found, with its packet's bytes
 abbrev pub recordedAt : List ℕ → Spot → Recorded
-recordedAt l s = record { stamped = record { sec = s .sec; usec = s .usec; packet = take (s .len) (drop (s .start) l) }; original = s .original }
+recordedAt l s = record { stamped = record { sec = s .sec; usec = s .usec; packet = packetAt l s }; original = s .original }
 
 -- The records that steps give, from a place behind k records on, each at the place behind the one before: up to the end, or to the first that is
 -- broken, whose number comes with 25.
