@@ -26,7 +26,8 @@ use Rattle.mending.specs.declared.sums.SumField.{SumField}
 use Rattle.mending.specs.declared.Mended.{Mended}
 use Rattle.mending.specs.declared.Passed.{Passed}
 use Rattle.mending.proofs.Packets.{packets-mended}
-use Rattle.mending.proofs.Passing.{found-is, spot-within, sums-turn, sums-end}
+use Rattle.reading.proofs.Ending.{there-found, spot-within}
+use Rattle.mending.proofs.Passing.{sums-turn, sums-end}
 use Rattle.mending.proofs.Placing.{put-length}
 use Rattle.mending.proofs.Renewed.{renewed-length, renewed-front}
 
@@ -107,7 +108,7 @@ found-inside l at k b e =
     let within = spot-within l at e .0 in
     let p : List ℕ = packetAt l s in
     let size : length p ≡ s .len = length-take-le (s .len) (drop (s .start) l) (omega (arith, length-drop (at + 16) l)) in
-    rw (found-is l at k e)
+    rw (there-found l at k e)
     (listed-inside (length l) k 0 (at + 16) (sumsIn p) p (omega arith) (packets-mended .within p (take-bytes (s .len) (drop (s .start) l) (drop-bytes (s .start) l b))))
 
 sums-inside : (m k at : ℕ) (l : List ℕ) → Bytes l → AllInside (length l) (sumsFrom m k at l)

@@ -4,22 +4,19 @@ use Prim.Native.Nat.{ℕ, zero, suc, _+_, _-_, _^_, _≤_, _<_}
 use native.Mathlib.Omega.{arith}
 use mathlib.Core.Bool.{true, false}
 use mathlib.Core.List.{List, [], _∷_, _++_}
-use lib.ListN.{length, drop, length-drop}
+use lib.ListN.{length}
 use lib.Seq.{sets, length-sets}
-use lib.Dec.{eqb}
-use borrow.Author.Tests.{ne-eqb}
-use Rattle.pkt.specs.Answers.{Answer, refused, gives, givesAll}
+use Rattle.pkt.specs.Answers.{Answer, refused, gives}
 use Rattle.pkt.proofs.Choice.{pick-yes, pick-no}
-use Rattle.pcap.specs.Read.{number, recordSize}
 use Rattle.inspect.specs.Answers.{Whole}
 use Rattle.inspect.specs.Check.{examineAnswer}
 use Rattle.inspect.specs.declared.header.IpRead.{IpRead}
 use Rattle.inspect.specs.declared.check.Kind.{Kind}
 use Rattle.inspect.specs.declared.check.Kind.the-variants.{Tcp, Udp, Bare, Icmp}
-use Rattle.reading.specs.Reading.{found, openAt, stepSays, spotAt, packetAt, stepAt, moreAt, pastAt, countPast}
+use Rattle.reading.specs.Reading.{openAt, stepSays, spotAt, packetAt, stepAt, moreAt, pastAt, countPast}
 use Rattle.reading.specs.Ends.{lastFrom, lastOf}
-use Rattle.reading.proofs.Broken.{broken-no, more-yes}
 use Rattle.reading.proofs.Stepping.{steps-read}
+use Rattle.reading.proofs.Ending.{there-found, spot-within, stops, goes-on}
 use Rattle.mending.specs.Sums.{partFields, fieldsOf, sumsIn}
 use Rattle.mending.specs.Mend.{Listed, listed, sumsAt, sumsFrom, sumsOf, putSums, changesOf}
 use Rattle.mending.specs.Pass.{StepAsks, Passes}
@@ -51,18 +48,11 @@ listed-length k which start (f ∷ fs) = ap suc (listed-length k (suc which) sta
 
 -- ---- a step that finds a record
 
-pub found-is : (l : List ℕ) (at k : ℕ) → moreAt l at ≡ true → stepAt l at k ≡ givesAll (found (spotAt l at k))
-found-is l at k e =
-    let m = more-yes l at e in
-    let w = broken-no (drop at l) (m .1) in
-    let some : eqb (length (drop at l)) 0 ≡ false = ne-eqb (length (drop at l)) 0 (λ (z : length (drop at l) ≡ 0). omega (arith, w .0)) in
-    pick-no _ _ (m .0) ∙ pick-no _ _ some ∙ pick-no _ _ (m .1)
-
 changes-two : (l : List ℕ) (at k : ℕ) → moreAt l at ≡ true → length (changesOf (sumsAt l (stepAt l at k))) ≤ 2
 unfolding sumsAt
 changes-two l at k e =
     let s = spotAt l at k in
-    rw (found-is l at k e)
+    rw (there-found l at k e)
     (omega (
       arith,
       changes-few (listed k 0 (at + 16) (sumsIn (packetAt l s))),
@@ -70,23 +60,9 @@ changes-two l at k e =
       sums-few (packetAt l s),
     ))
 
-size-is : (l : List ℕ) → recordSize l ≡ 16 + number 4 8 l
-unfolding recordSize
-size-is l = refl
-
--- where the record that a step finds lies
-pub spot-within : (l : List ℕ) (at : ℕ) → moreAt l at ≡ true → (at + 16 + number 4 8 (drop at l) ≤ length l) × (pastAt l at ≡ at + 16 + number 4 8 (drop at l))
-spot-within l at e =
-    let w = broken-no (drop at l) (more-yes l at e .1) in
-    let z = size-is (drop at l) in
-    let p : pastAt l at ≡ at + recordSize (drop at l) = pick-yes _ _ e in (
-      omega (arith, w .0, w .2, length-drop at l),
-      omega arith,
-    )
-
 pub step-asks : (l : List ℕ) (at k c : ℕ) → moreAt l at ≡ true → c ≤ at → StepAsks l (stepAt l at k) c
 step-asks l at k c e few =
-    rw (found-is l at k e) (record { within = spot-within l at e .0; few = omega arith })
+    rw (there-found l at k e) (record { within = spot-within l at e .0; few = omega arith })
 
 -- ---- a turn
 
@@ -99,15 +75,6 @@ pub sums-end : (m : ℕ) (l : List ℕ) (at k : ℕ) → moreAt l at ≡ false �
 unfolding sumsFrom
 sums-end zero l at k e = refl
 sums-end (suc m) l at k e = pick-no _ _ e
-
-last-turn : (m : ℕ) (l : List ℕ) (at k : ℕ) → moreAt l at ≡ true → lastFrom (suc m) k at l ≡ lastFrom m (suc k) (pastAt l at) l
-unfolding lastFrom
-last-turn m l at k e = pick-yes _ _ e
-
-last-end : (m : ℕ) (l : List ℕ) (at k : ℕ) → moreAt l at ≡ false → lastFrom m k at l ≡ stepAt l at k
-unfolding lastFrom
-last-end zero l at k e = refl
-last-end (suc m) l at k e = pick-no _ _ e
 
 -- where a pass through l, with the output os and the list es at first, is: the place, the records and the changes before it, the turns that are
 -- left, the output and the list
@@ -153,7 +120,7 @@ at-next l os es at k c m o e h f =
       rows = sym (sets-append c (changesOf ss) (changesOf ts) e) ∙ ap (λ (a : List (List ℕ)). sets e c a) (sym (changes-append ss ts))
           ∙ ap (λ (a : List Listed). sets e c (changesOf a)) (sym all) ∙ f .rows;
       count = omega (arith, changes-count ss ts, ap (λ (a : List Listed). length (changesOf a)) all, f .count);
-      last = sym (ap (λ (j : ℕ). lastFrom j k at l) one ∙ last-turn (m - 1) l at k h) ∙ f .last;
+      last = sym (ap (λ (j : ℕ). lastFrom j k at l) one ∙ goes-on (m - 1) k at l h) ∙ f .last;
       long-output = put-length ss o ∙ f .long-output;
       long-rows = length-sets e c (changesOf ss) ∙ f .long-rows;
     }
@@ -170,7 +137,7 @@ at-end l os es at k c m o e p h f n s =
         output = ap (λ (a : List Listed). putSums a o) (sym none) ∙ f .output;
         rows = ap (λ (a : List (List ℕ)). sets e c a) (sym none-changed) ∙ f .rows;
       };
-      last = s ∙ sym (last-end m l at k h) ∙ f .last;
+      last = s ∙ sym (stops m k at l h) ∙ f .last;
     }
 
 -- the reader's count, and the bytes that are left, of which there are fewer

@@ -10,7 +10,7 @@ use borrow.Author.Tests.{ne-eqb}
 use Rattle.pkt.specs.Answers.{ListAnswer, refusedAt, givesAll}
 use Rattle.pkt.proofs.Choice.{fails, pick-yes, pick-no}
 use Rattle.pcap.specs.Pcap.{fileHeader}
-use Rattle.pcap.specs.Read.{Recorded, Records, whole, brokenAfter, inFront, recordSize, isBroken, recordsOf}
+use Rattle.pcap.specs.Read.{Recorded, Records, whole, brokenAfter, inFront, number, recordSize, isBroken, recordsOf}
 use Rattle.reading.specs.Reading.{startsWith, headerSize, openAt, Next, ended, found, spotAt, stepAt, moreAt, pastAt}
 use Rattle.reading.specs.Steps.{recordedAt, Steps, ends, breaks, goes}
 use Rattle.reading.specs.Ends.{allOf, recordsAnswer, lastFrom, lastOf, toTheEnd, StepsEnd}
@@ -20,7 +20,7 @@ use Rattle.reading.proofs.Stepping.{size-more, steps-read}
 
 -- ---- a step finds a record exactly where a whole one stands
 
-there-found : (l : List ℕ) (at k : ℕ) → moreAt l at ≡ true → stepAt l at k ≡ givesAll (found (spotAt l at k))
+pub there-found : (l : List ℕ) (at k : ℕ) → moreAt l at ≡ true → stepAt l at k ≡ givesAll (found (spotAt l at k))
 there-found l at k m =
     let y = more-yes l at m in
     let some = ne-eqb (length (drop at l)) 0 (λ (z : length (drop at l) ≡ 0). omega (arith, broken-no (drop at l) (y .1) .0)) in
@@ -35,13 +35,31 @@ found-there l at k s e = go (ltb at headerSize) refl (eqb (length (drop at l)) 0
     go false t false u true v = cc (sym e ∙ pick-no _ _ t ∙ pick-no _ _ u ∙ pick-yes _ _ v)
     go false t false u false v = pick-no _ _ t ∙ ap not v
 
+size-is : (l : List ℕ) → recordSize l ≡ 16 + number 4 8 l
+unfolding recordSize
+size-is l = refl
+
+-- where the record that a step finds lies
+pub spot-within : (l : List ℕ) (at : ℕ) → moreAt l at ≡ true → (at + 16 + number 4 8 (drop at l) ≤ length l) × (pastAt l at ≡ at + 16 + number 4 8 (drop at l))
+spot-within l at e =
+    let w = broken-no (drop at l) (more-yes l at e .1) in
+    let z = size-is (drop at l) in
+    let p : pastAt l at ≡ at + recordSize (drop at l) = pick-yes _ _ e in (
+      omega (arith, w .0, w .2, length-drop at l),
+      omega arith,
+    )
+
 -- ---- the last step
 
 -- it is the one where no record stands
-stops : (most k at : ℕ) (l : List ℕ) → moreAt l at ≡ false → lastFrom most k at l ≡ stepAt l at k
+pub stops : (most k at : ℕ) (l : List ℕ) → moreAt l at ≡ false → lastFrom most k at l ≡ stepAt l at k
 unfolding lastFrom
 stops zero k at l e = refl
 stops (suc most) k at l e = pick-no _ _ e
+
+pub goes-on : (most k at : ℕ) (l : List ℕ) → moreAt l at ≡ true → lastFrom (suc most) k at l ≡ lastFrom most (suc k) (pastAt l at) l
+unfolding lastFrom
+goes-on most k at l e = pick-yes _ _ e
 
 -- what is answered behind k records
 abbrev behind : ℕ → Records → ListAnswer Next
