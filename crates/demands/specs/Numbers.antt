@@ -139,7 +139,7 @@ pub record Numbered : Type 0 where
   pub capturing : (sec usec : ℕ) (d o : List ℕ) (r : Captured) (o′ : List ℕ) → RecordWritten sec usec d o r o′ → Among (1 ∷ 17 ∷ 3 ∷ []) (capturedSays r)
   -- `write_header`
   pub heading : (o : List ℕ) (r : Captured) (o′ : List ℕ) → HeaderWritten o r o′ → Among (3 ∷ []) (capturedSays r)
-  -- Document 02, T-08, "23 .., 25 with the record number .., then 3": a reader's `here`, behind k records, and `mend`
+  -- Document 02, T-08, "23 .., 25 with the record number .., then 3": a reader's `here`, or `step_at`, behind k records, and `mend`
   pub stepping : (l : List ℕ) (at k : ℕ) (r : Step) → stepSays r ≡ stepAt l at k → AmongList (23 ∷ []) (25 ∷ []) (suc k) (stepSays r)
   pub mending : (l o : List ℕ) (e : List (List ℕ)) (r : Mended) (o′ : List ℕ) (e′ : List (List ℕ)) → Mends l o e r o′ e′
       → AmongList (23 ∷ 3 ∷ []) (25 ∷ []) (length l) (mendedSays r)

@@ -1,5 +1,5 @@
-// Captures read through a reader that holds the lent capture and its place. The work is done on a slice and numbers; what is done with a reader
-// takes it apart.
+// Captures read through a reader that holds the lent capture and its place, or on a slice and a place. The work is done on a slice and numbers;
+// what is done with a reader takes it apart.
 use pkt::limit;
 use pkt::refusal;
 ghost use mathlib.Core.Path.{_≡_};
@@ -52,7 +52,7 @@ fn starts_with(s: &[u8], h: &[u8]) -> bool
 }
 
 // The place of the first record, or 0 where the capture does not start with document 01's file header.
-fn opening(s: &[u8]) -> usize
+pub fn opening(s: &[u8]) -> usize
     ensures { λ r. ⌜ r ≡ openAt (now (s .entry)) ⌝ }
 {
     let h = pcap::header();
@@ -102,7 +102,7 @@ fn size(s: &[u8], at: usize) -> usize
 }
 
 // What stands at a place behind count records.
-fn step_at(s: &[u8], at: usize, count: usize) -> Step
+pub fn step_at(s: &[u8], at: usize, count: usize) -> Step
     ensures { λ r. ⌜ stepSays r ≡ stepAt (now (s .entry)) at count ⌝ }
 {
     if at < 24 {
@@ -125,7 +125,7 @@ fn step_at(s: &[u8], at: usize, count: usize) -> Step
 }
 
 // Whether a whole record stands at a place.
-fn more_at(s: &[u8], at: usize) -> bool
+pub fn more_at(s: &[u8], at: usize) -> bool
     ensures { λ r. ⌜ r ≡ moreAt (now (s .entry)) at ⌝ }
 {
     if at < 24 {
@@ -135,7 +135,7 @@ fn more_at(s: &[u8], at: usize) -> bool
 }
 
 // The place behind the record at a place, or the place itself where none stands.
-fn past_at(s: &[u8], at: usize) -> usize
+pub fn past_at(s: &[u8], at: usize) -> usize
     ensures { λ r. ⌜ r ≡ pastAt (now (s .entry)) at ⌝ }
 {
     if more_at(s, at) {
