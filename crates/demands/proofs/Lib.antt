@@ -19,3 +19,6 @@ pub mod Sums
 pub mod Captured
 pub mod Fed
 pub mod Mending
+pub mod Reported
+pub mod Expected
+pub mod Reporting

@@ -20,7 +20,8 @@ use Rattle.pieces.specs.declared.BlockRequest.{BlockRequest}
 use Rattle.assembly.specs.Calls.{capacity}
 use Rattle.demands.specs.Assembling.{by-fragment, Cover}
 use Rattle.demands.specs.Cutting.{CutBy, AllCut}
-use Rattle.demands.specs.Listing.{cutAt, packetsIn, Listed, ListAssembles}
+use Rattle.reporting.specs.Report.{cutAt}
+use Rattle.demands.specs.Listing.{packetsIn, Listed, ListAssembles}
 use Rattle.demands.proofs.Left.{single}
 use Rattle.demands.proofs.Outputs.{between}
 use Rattle.demands.proofs.Gathering.{from-one}

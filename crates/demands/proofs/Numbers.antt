@@ -47,6 +47,8 @@ use Rattle.pcap.proofs.Pcap.{file-header-length}
 use Rattle.reading.specs.Reading.{startsWith, headerSize, ended, found, spotAt, stepAt}
 use Rattle.reading.specs.Ends.{allOf}
 use Rattle.reading.proofs.Stepping.{steps-read}
+use Rattle.ezpkt.specs.declared.SocketAddrV4.{SocketAddrV4}
+use Rattle.reporting.specs.Report.{firstWrong, mostPackets, reportAnswer}
 use Rattle.mending.specs.Mend.{changes, roomAnswer, andThenAll, mendAnswer}
 use Rattle.mending.proofs.Records.{wholeOf}
 use Rattle.demands.specs.Numbers.{isIn, Among, number, accepted, AmongList, number-whole, number-at, accepted-all, buildNumbers, Numbered}
@@ -268,6 +270,12 @@ feed-in m n usec scratch out =
     (refusing _ (badLink m) 24 _ refl
     (refusing _ (ltb 999999 usec) 17 _ refl (refusing _ (ltb scratch (28 + n) || ltb out (frameSize m n)) 3 _ refl (accepted _))))
 
+-- ---- reporting
+
+-- 26 of too many ends, 25 of the first that is wrong
+reported-in : (l es : List ℕ) (cl sv : SocketAddrV4) → AmongList (26 ∷ []) (25 ∷ []) (length es) (reportAnswer l es cl sv)
+reported-in l es cl sv = refusing-whole _ _ _ (ltb mostPackets (length es)) 26 _ refl (refusing-at _ _ _ (firstWrong 0 (length l) es) 25 _ refl (accepted-all _))
+
 -- ---- reading and mending a capture
 
 -- a step behind k records
@@ -352,6 +360,7 @@ numbered =
       recording = λ n usec room r e. told _ _ _ e (record-in n usec room);
       capturing = λ sec usec d o r o′ x. told _ _ _ (x .answer) (record-in (length d) usec (length o));
       heading = λ o r o′ x. told _ _ _ (x .answer) (fitting-in 24 (length o));
+      reporting = λ l es cl sv r e. subst (AmongList _ _ _) (sym e) (reported-in l es cl sv);
       stepping = λ l at k r e. subst (AmongList _ _ _) (sym e) (step-in l at k);
       mending = λ l o e r o′ e′ x. subst (AmongList _ _ _) (sym (x .answer)) (mended-in l (length o) (length e));
       judging = λ n b r e. told _ _ _ e (refusing _ (ltb 65515 n) 1 _ refl (accepted b));

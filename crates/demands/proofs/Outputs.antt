@@ -90,16 +90,28 @@ end-to-end b r o f (e ∷ es) a i fits ok short room is at =
     (here ∙ sym (append-assoc a (packetOf q p) (later ++ r)))
     (length-append a (packetOf q p) ∙ (let size = tcp-size (segmentOf f (e .side) (e .flags) (e .frag)) p in omega arith)))
 
-sent : (f : TcpFlow) (es : List Emit) (o b : List ℕ) (g : Gone) → Between (f .cl .ip) (f .sv .ip) → Sendable es
-    → sendAnswer f es (length o) ≡ gives g → b ≡ leaves (sendAnswer f es (length o)) (sentBytes f es) o → EndToEnd b f es 0 (g .ends)
-unfolding written
-sent f es o b g fits ok e is =
+-- what an accepted call tells
+pub record Accepted (f : TcpFlow) (es : List Emit) (o : List ℕ) (g : Gone) : Type 0 where
+  pub short : anyLong es ≡ false
+  pub room : sizeAll es ≤ length o
+  pub flow : afterAll f es ≡ g .flow
+  pub ends : endsFrom 0 es ≡ g .ends
+
+pub was-accepted : (f : TcpFlow) (es : List Emit) (o : List ℕ) (g : Gone) → sendAnswer f es (length o) ≡ gives g → Accepted f es o g
+was-accepted f es o g e =
     let (short, rest) = past (anyLong es) 1 _ g e in
     let (room, given) = bounded (length o) (sizeAll es) 3 g _ rest in
     let all : Gone = record { flow = afterAll f es; ends = endsFrom 0 es } in
     let same : all ≡ g = cc given in
-    subst (EndToEnd b f es 0) (ap (λ (x : Gone). x .ends) same)
-    (end-to-end b _ o f es [] 0 fits ok short room (is ∙ ap (λ (x : Answer Gone). leaves x (sentBytes f es) o) e) refl)
+    record { short = short; room = room; flow = ap (λ (x : Gone). x .flow) same; ends = ap (λ (x : Gone). x .ends) same }
+
+sent : (f : TcpFlow) (es : List Emit) (o b : List ℕ) (g : Gone) → Between (f .cl .ip) (f .sv .ip) → Sendable es
+    → sendAnswer f es (length o) ≡ gives g → b ≡ leaves (sendAnswer f es (length o)) (sentBytes f es) o → EndToEnd b f es 0 (g .ends)
+unfolding written
+sent f es o b g fits ok e is =
+    let w = was-accepted f es o g e in
+    subst (EndToEnd b f es 0) (w .ends)
+    (end-to-end b _ o f es [] 0 fits ok (w .short) (w .room) (is ∙ ap (λ (x : Answer Gone). leaves x (sentBytes f es) o) e) refl)
 
 -- an echo's answer tells what building it is answered
 echo-given : (f g : IcmpFlow) (a : Answer ℕ) (n : ℕ) → gives (icmp.echoGone g n) ≡ icmp.withFlow f a → a ≡ gives n

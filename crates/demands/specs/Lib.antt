@@ -16,3 +16,4 @@ pub mod Tabled
 pub mod Laps
 pub mod Plans
 pub mod Mending
+pub mod Reporting

@@ -1,9 +1,8 @@
 -- Document 02, T-01: "Demand 3 reads over the list as over single pieces."
-use mathlib.Core.List.{List, [], _∷_, map, List·Memᴰ}
+use mathlib.Core.List.{List, [], map, List·Memᴰ}
 use mathlib.Core.Path.{_≡_}
 use Prim.Native.Nat.{ℕ, _*_, _≤_, _<_}
 use lib.ListN.{length, take, getD}
-use lib.Seq.{slice}
 use Rattle.ezpkt.specs.Build.{startAt, endAt, packetOf}
 use Rattle.ezpkt.specs.Ip4.{fragmentOf}
 use Rattle.ezpkt.specs.declared.ip4.Template.{Template}
@@ -11,16 +10,12 @@ use Rattle.pieces.specs.Fragments.{Fragmented}
 use Rattle.pieces.specs.OneByOne.{requestAt}
 use Rattle.pieces.specs.declared.BlockRequest.{BlockRequest}
 use Rattle.pieces.specs.declared.Pieces.the-variants.{Written}
+use Rattle.reporting.specs.Report.{cutAt}
 use Rattle.assembly.specs.declared.Rec.{Rec}
 use Rattle.demands.specs.Handing.{Handed}
 use Rattle.demands.specs.Assembling.{templateKey, Cover}
 use Rattle.demands.specs.Cutting.{CutBy}
 use Rattle.demands.specs.Demand3.{OneHeader, FromOne}
-
--- bytes cut at the ends es: the first packet begins at place `at`, each other where the one before it ends
-unfoldable pub cutAt : ℕ → List ℕ → List ℕ → List (List ℕ)
-cutAt at [] l = []
-cutAt at (e ∷ es) l = slice at e l ∷ cutAt e es l
 
 -- what an accepted call wrote for the requests rs, cut at its ends: o′ and e′ are the output and the ends after it
 abbrev pub packetsIn : List BlockRequest → List ℕ → List ℕ → List (List ℕ)

@@ -12,6 +12,7 @@ use Rattle.ezpkt.specs.Build.{answerOf, Answered}
 use Rattle.ezpkt.specs.Icmp4 as icmp
 use Rattle.tcp4.specs.Tcp4 as tcp
 use Rattle.pieces.specs.Fragments.{piecesSays, Fragmented}
+use Rattle.ezpkt.specs.declared.SocketAddrV4.{SocketAddrV4}
 use Rattle.ezpkt.specs.declared.build.Request.{Request}
 use Rattle.ezpkt.specs.declared.build.Request.the-variants.{Tcp, Udp, Echo, Piece}
 use Rattle.ezpkt.specs.declared.build.IcmpEcho.{IcmpEcho}
@@ -62,6 +63,8 @@ use Rattle.feed.specs.declared.Feed.{Feed}
 use Rattle.feed.specs.declared.Fed.{Fed}
 use Rattle.reading.specs.Reading.{stepSays, stepAt}
 use Rattle.reading.specs.declared.Step.{Step}
+use Rattle.reporting.specs.Report.{reportedSays, Reports}
+use Rattle.reporting.specs.declared.Reported.{Reported}
 use Rattle.mending.specs.Mend.{mendedSays, Mends}
 use Rattle.mending.specs.declared.Mended.{Mended}
 use Rattle.pcap.specs.Answers.{capturedSays, recordAnswer, HeaderWritten, RecordWritten}
@@ -143,6 +146,8 @@ pub record Numbered : Type 0 where
   pub stepping : (l : List ℕ) (at k : ℕ) (r : Step) → stepSays r ≡ stepAt l at k → AmongList (23 ∷ []) (25 ∷ []) (suc k) (stepSays r)
   pub mending : (l o : List ℕ) (e : List (List ℕ)) (r : Mended) (o′ : List ℕ) (e′ : List (List ℕ)) → Mends l o e r o′ e′
       → AmongList (23 ∷ 3 ∷ []) (25 ∷ []) (length l) (mendedSays r)
+  -- Document 02, T-10, "26 for a longer list, then 25 with the first index": `flow_report`, over so many ends
+  pub reporting : (l es : List ℕ) (cl sv : SocketAddrV4) (r : Reported) → Reports l es cl sv r → AmongList (26 ∷ []) (25 ∷ []) (length es) (reportedSays r)
   -- Document 02, T-07, "The check .. refuses with 1. Refusals of the planner: 1, then 21 .., then 3": `is_plan` and `judge`, `decide`, `plan`
   pub judging : (n : ℕ) (b : Bool) (r : Judged) → judgedSays r ≡ judgeAnswer n b → Among (1 ∷ []) (judgedSays r)
   pub deciding : (n m places : ℕ) (j : Job) → Decided n m places j → Among (1 ∷ 21 ∷ 3 ∷ []) (plannedSays (j .answer))

@@ -48,7 +48,9 @@ pub const NO_CHECKSUM: u8 = 22;
 pub const NOT_CAPTURE: u8 = 23;
 // A link size below 28 or above 65,535.
 pub const BAD_LINK: u8 = 24;
-// A record of a capture is cut short, or above 65,535 bytes.
+// A record of a capture is cut short, or above 65,535 bytes; the end of a packet lies below the one before it, or past the bytes.
 pub const BROKEN: u8 = 25;
+// More than 1,000,000 packets to report on.
+pub const TOO_MANY: u8 = 26;
 // A table of assemblies has no assembly for the key, or none that is complete.
 pub const NO_DATAGRAM: u8 = 27;

@@ -26,7 +26,7 @@ there-found l at k m =
     let some = ne-eqb (length (drop at l)) 0 (λ (z : length (drop at l) ≡ 0). omega (arith, broken-no (drop at l) (y .1) .0)) in
     pick-no _ _ (y .0) ∙ pick-no _ _ some ∙ pick-no _ _ (y .1)
 
-found-there : (l : List ℕ) (at k : ℕ) (s : Spot) → stepAt l at k ≡ givesAll (found s) → moreAt l at ≡ true
+pub found-there : (l : List ℕ) (at k : ℕ) (s : Spot) → stepAt l at k ≡ givesAll (found s) → moreAt l at ≡ true
 found-there l at k s e = go (ltb at headerSize) refl (eqb (length (drop at l)) 0) refl (isBroken (drop at l)) refl
   where
     go : (a : Bool) → ltb at headerSize ≡ a → (b : Bool) → eqb (length (drop at l)) 0 ≡ b → (c : Bool) → isBroken (drop at l) ≡ c → moreAt l at ≡ true
