@@ -90,6 +90,17 @@ function call_row(call, told, edits, token, n, i, found, crate) {
     }
 }
 
+# can_be_made NAME: what each pair of an edit changes stands once in its file, as the pairs before it leave that
+function can_be_made(name, i, file, old, at, had) {
+    for (i = 1; i <= pairs[name]; i++) {
+        file = change[name, i, "in"]; old = change[name, i, "old"]
+        if (!(file in had)) had[file] = whole[file]
+        at = index(had[file], old)
+        if (!at || index(substr(had[file], at + length(old)), old)) say(name ": '" old "' is not once in " file)
+        had[file] = substr(had[file], 1, at - 1) change[name, i, "new"] substr(had[file], at + length(old))
+    }
+}
+
 # a row of a table of edits
 function edit_row(name, breaks) {
     rows[name]++
@@ -113,7 +124,15 @@ FILENAME == "crates.txt" {
     next
 }
 
+FILENAME ~ /\.(antt|rt)$/ { whole[FILENAME] = whole[FILENAME] $0 "\n" }
+
 FILENAME ~ /\.edit$/ {
+    if (/^file: /) edited = "crates/" crate "/" substr($0, 7)
+    if (/^old: /) old = substr($0, 6)
+    if (/^new:/) {
+        n = ++pairs[name]; change[name, n, "in"] = edited; change[name, n, "old"] = old
+        sub(/^new: ?/, ""); change[name, n, "new"] = $0
+    }
     if (FNR > 1) next
     name = part[4]; sub(/\.edit$/, "", name); name = crate "/" name
     if (name in folder) say(name " stands in two folders")
@@ -183,6 +202,7 @@ END {
             sum += lines[path]
             if (rows[path] != 1) say(path " stands in " rows[path] + 0 " rows of the files to believe")
         }
+    for (name in folder) can_be_made(name)
     for (name in folder) if (rows[name] != 1) say(name " stands in " rows[name] + 0 " rows of the tables of edits")
     for (name in public)
         if (public[name] in open && rows[name] != 1) say(name " stands in " rows[name] + 0 " rows of 'Public calls'")
