@@ -27,7 +27,7 @@ fn put(packet: &[u8], n: usize, out: &mut [u8]) -> usize
 }
 
 // The packets of a capture at the start of out, and where each ends at the start of ends.
-pub fn gather(capture: &[u8], out: &mut [u8], ends: &mut [usize]) -> Gathered
+pub(crate) fn gather(capture: &[u8], out: &mut [u8], ends: &mut [usize]) -> Gathered
     requires { ⌜ GatherAsks (now capture) (now out) (now ends) ⌝ }
     ensures { λ g. ⌜ Gathers (now (capture .entry)) g (now (out .exit)) (now (ends .exit)) ⌝ }
 {

@@ -26,7 +26,7 @@ fn say_one(words: &[u8], n: usize) -> bool {
 }
 
 // The whole table; whether all of it was written.
-pub fn show(r: Report) -> bool {
+pub(crate) fn show(r: Report) -> bool {
     let cl = r.cl;
     let sv = r.sv;
     say(b"                  client      server\n")
