@@ -344,6 +344,15 @@ static void icmp(void)
     MAKE(icmp_sent, wb_icmp_echo_reply(f, lap, 4, out, 32));
 }
 
+/* sets the checksum of a header right */
+static void mend(uint8_t *header, size_t count)
+{
+    header[10] = header[11] = 0;
+    wb_sum right = wb_ip_csum(header, count);
+    header[10] = (uint8_t)(right.sum >> 8);
+    header[11] = (uint8_t)right.sum;
+}
+
 /* a good packet of 32 bytes with two bytes changed, and its header's checksum set right unless it was changed */
 static const uint8_t *with(size_t at, uint8_t high, uint8_t low)
 {
@@ -352,12 +361,21 @@ static const uint8_t *with(size_t at, uint8_t high, uint8_t low)
     wb_build_udp(d, lap, 4, packet, sizeof packet);
     packet[at] = high;
     packet[at + 1] = low;
-    if (at != 10) {
-        packet[10] = packet[11] = 0;
-        wb_sum header = wb_ip_csum(packet, 20);
-        packet[10] = (uint8_t)(header.sum >> 8);
-        packet[11] = (uint8_t)header.sum;
-    }
+    if (at != 10) mend(packet, 20);
+    return packet;
+}
+
+/* the same packet with router alert behind its header: 36 bytes, a header of 6 words and this total length */
+static const uint8_t *with_alert(uint8_t total)
+{
+    static const uint8_t alert[4] = {0x94, 0x04, 0x00, 0x00};
+    static uint8_t packet[36];
+    const uint8_t *plain = with(2, 0, total);
+    memcpy(packet, plain, 20);
+    memcpy(packet + 20, alert, 4);
+    memcpy(packet + 24, plain + 20, 12);
+    packet[0] = 0x46;
+    mend(packet, 24);
     return packet;
 }
 
@@ -366,9 +384,13 @@ static void checks(void)
     MAKE(checked, wb_check(with(30, 'p', '!'), 32));
     MAKE(checked, wb_check(with(26, 0, 0), 32));
     MAKE(checked, wb_check(with(30, 'p', '!'), 31));
-    MAKE(checked, wb_check(with(0, 0x46, 0), 32));
+    MAKE(checked, wb_check(with(0, 0x55, 0), 32));
+    MAKE(checked, wb_check(with(0, 0x44, 0), 32));
     MAKE(checked, wb_check(with(2, 0, 19), 32));
     MAKE(checked, wb_check(with(10, 0, 0), 32));
+    MAKE(checked, wb_check(with(0, 0x46, 0), 32));
+    MAKE(checked, wb_check(with_alert(36), 36));
+    MAKE(checked, wb_check(with_alert(23), 36));
     MAKE(checked, wb_check(with(6, 0x80, 0), 32));
     MAKE(checked, wb_check(with(6, 0x80, 1), 32));
     MAKE(checked, wb_check(with(6, 0x20, 0), 32));

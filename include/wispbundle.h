@@ -38,7 +38,7 @@ extern "C" {
 
 /* ---- the version: another number after each change of a struct or a call, also where every size stays. The header is
  * the archive's exactly if wb_version answers WB_VERSION. */
-#define WB_VERSION 6
+#define WB_VERSION 7
 
 uint32_t wb_version(void);
 
@@ -50,8 +50,8 @@ enum {
     WB_BAD_OFFSET = 2,      /* piece offset above 8,191 */
     WB_NO_ROOM = 3,         /* a buffer is shorter than what is to be written */
     WB_SHORT = 4,           /* fewer than 20 bytes, or fewer than the total length */
-    WB_NOT_IPV4 = 5,        /* first byte is not 0x45 */
-    WB_BAD_TOTAL = 6,       /* total length below 20 */
+    WB_NOT_IPV4 = 5,        /* version is not 4, or header length is under 5 words */
+    WB_BAD_TOTAL = 6,       /* total length is under the header length */
     WB_BAD_HEADER = 7,      /* IPv4 header checksum does not verify */
     WB_WRONG_KEY = 8,       /* key differs from the assembly's: source, destination, identification or protocol */
     WB_NOT_BLOCKS = 9,      /* MF set and data length no multiple of 8 */
@@ -347,7 +347,8 @@ typedef struct {
     bool no_checksum;
 } wb_checked;
 
-/* Refuses by 4, 5, 6, 4, 7, 18, 13, 12, 14, 15. Bytes after the packet's total length do not count. */
+/* Refuses by 4, 5, 6, 4, 7, 18, 13, 12, 14, 15. Options of the IPv4 header, any bytes, are summed with it and passed
+ * over. Bytes after the packet's total length do not count. */
 wb_checked wb_check(const uint8_t *packet, size_t packet_len);
 
 /* ---- putting pieces together
@@ -398,7 +399,7 @@ wb_opened wb_assembly_open(wb_key key, uint8_t *payload, size_t payload_len, uin
  * Waiting: bytes are missing still. Complete: payload holds the datagram's IPv4 payload in its first total bytes; a
  * later piece may still spoil it. Spoilt: two pieces contradict each other. The piece that spoils zeroes both buffers.
  * Where spoilt is true already, both buffers stay, and the record comes back as it was, with total 0 where known is
- * false. Refuses by 11, 4, 5, 6, 4, 7, 18, 8, 9, 10. */
+ * false. The packet may have options, as for wb_check. Refuses by 11, 4, 5, 6, 4, 7, 18, 8, 9, 10. */
 wb_taken wb_assembly_take(wb_assembly before, const uint8_t *packet, size_t packet_len, uint8_t *payload,
                           size_t payload_len, uint8_t *map, size_t map_len);
 

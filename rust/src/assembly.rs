@@ -159,7 +159,8 @@ impl<'a> Assembly<'a> {
     }
 
     /// Takes the piece that a packet carries: its data goes to its place, and its blocks are marked.
-    /// Refuses by 11, 4, 5, 6, 4, 7, 18, 8, 9, 10.
+    /// The packet may have options, as for [`check`](crate::check). Refuses by 11, 4, 5, 6, 4, 7, 18, 8,
+    /// 9, 10.
     pub fn take(&mut self, packet: &[u8]) -> Result<Outcome, Refusal> {
         let (before, from, count) = (self.record.raw(), packet.as_ptr(), packet.len());
         let (to, room) = (self.payload.as_mut_ptr(), self.payload.len());

@@ -11,8 +11,8 @@ pub enum Good {
     WithoutChecksum,
 }
 
-/// Checks a packet. Bytes after its total length do not count. Refuses by 4, 5, 6, 4, 7, 18, 13, 12,
-/// 14, 15.
+/// Checks a packet. Options of its IPv4 header, any bytes, are summed with it and passed over. Bytes
+/// after its total length do not count. Refuses by 4, 5, 6, 4, 7, 18, 13, 12, 14, 15.
 ///
 /// ```
 /// use wispbundle::{Good, IcmpFlow, Refusal, check};

@@ -20,7 +20,7 @@ mod aarch64;
 compile_error!("libwispbundle.a is for x86-64; beside it only aarch64 is known, for tests");
 
 /// The header's `WB_VERSION`: the number of the archive whose structs and calls these are.
-pub const VERSION: u32 = 6;
+pub const VERSION: u32 = 7;
 
 macro_rules! functions {
     ($($form:ident $($name:ident),+: fn $args:tt -> $answer:ident;)+) => {

@@ -119,6 +119,29 @@ fn a_telemetry_datagram_in_all_six_orders() {
 }
 
 #[test]
+fn pieces_with_options_are_put_together_as_without() {
+    let packet = written(|out| datagram(CL, SV).build(&counted(3480), out));
+    let sent = &packet[20..];
+    let plain = [0, 185, 370].map(|off| fragment(sent, off, 185));
+    let with = |options: &[u8]| plain.each_ref().map(|p| with_options(p, options, &[]));
+    let (alert, longest) = (with(&ROUTER_ALERT), with(&counted(40)));
+    let mixed = [alert[0].clone(), plain[1].clone(), longest[2].clone()];
+    for pieces in [alert, longest, mixed] {
+        for order in ORDERS {
+            let [mut b, mut c] = [buffers(), buffers()];
+            let (mut ours, mut without) = (open(&mut b), open(&mut c));
+            for i in order {
+                assert_eq!(ours.take(&pieces[i]), without.take(&plain[i]));
+                assert_eq!(ours.record(), without.record());
+                assert!(ours.payload() == without.payload() && ours.map() == without.map());
+            }
+            assert_eq!(ours.held(), Some(sent));
+            assert_eq!(ours.take(&plain[1]), Ok(Outcome::Complete));
+        }
+    }
+}
+
+#[test]
 fn a_piece_past_the_end_spoils_in_all_six_orders() {
     let payload = counted(20);
     let pieces = [(0, 1), (3, 1), (2, 1)].map(|(off, len)| fragment(&payload, off, len));
@@ -194,10 +217,12 @@ fn each_refusal_leaves_all_as_it_was() {
     let piece = fragment(&counted(24), 0, 2);
     let mut unsummed = piece.clone();
     unsummed[11] ^= 1;
+    let alert = |changes: &[(usize, u8)]| with_options(&piece, &ROUTER_ALERT, changes);
     let cases = [
         (piece[..19].to_vec(), Refusal::Short),
         (piece[..35].to_vec(), Refusal::Short),
-        (changed(piece.clone(), &[(0, 0x46)]), Refusal::NotIpv4),
+        (changed(piece.clone(), &[(0, 0x44)]), Refusal::NotIpv4),
+        (changed(piece.clone(), &[(0, 0x55)]), Refusal::NotIpv4),
         (changed(piece.clone(), &[(3, 19)]), Refusal::BadTotal),
         (unsummed, Refusal::BadHeader),
         (changed(piece.clone(), &[(6, 0xa0)]), Refusal::Reserved),
@@ -214,6 +239,17 @@ fn each_refusal_leaves_all_as_it_was() {
             changed(piece.clone(), &[(6, 0x1f), (7, 0xff)]),
             Refusal::TooFar,
         ),
+        (alert(&[])[..20].to_vec(), Refusal::Short),
+        (alert(&[])[..23].to_vec(), Refusal::Short),
+        (alert(&[])[..39].to_vec(), Refusal::Short),
+        (alert(&[(0, 0x44)]), Refusal::NotIpv4),
+        (alert(&[(0, 0x56)]), Refusal::NotIpv4),
+        (alert(&[(3, 23)]), Refusal::BadTotal),
+        (changed(alert(&[]), &[]), Refusal::BadHeader),
+        (alert(&[(6, 0xa0)]), Refusal::Reserved),
+        (alert(&[(5, 8)]), Refusal::WrongKey),
+        (alert(&[(3, 39)]), Refusal::NotBlocks),
+        (alert(&[(6, 0x1f), (7, 0xff)]), Refusal::TooFar),
     ];
     let mut b = buffers();
     let mut assembly = open(&mut b);

@@ -63,7 +63,8 @@ fn missing_bytes_a_bad_header_and_pieces() {
 #[test]
 fn one_changed_byte() {
     for (packet, change, why) in [
-        (udp(), (0, 0x46), Refusal::NotIpv4),
+        (udp(), (0, 0x44), Refusal::NotIpv4),
+        (udp(), (0, 0x55), Refusal::NotIpv4),
         (udp(), (3, 19), Refusal::BadTotal),
         (udp(), (9, 2), Refusal::OtherProtocol),
         (udp(), (3, 27), Refusal::Cut),
@@ -75,6 +76,64 @@ fn one_changed_byte() {
     ] {
         assert_eq!(check(&changed(packet, &[change])), Err(why), "{change:?}");
     }
+}
+
+#[test]
+fn options_are_summed_and_passed_over() {
+    let echo = written(|out| IcmpFlow::new(CLIENT, SERVER).echo(b"odd", out));
+    for packet in [echo, tcp(), udp()] {
+        let alert = with_options(&packet, &ROUTER_ALERT, &[]);
+        assert_eq!(alert[20..24], ROUTER_ALERT);
+        assert_eq!(check(&alert), Ok(Good::Checked));
+        for words in 1..=10 {
+            let any = counted(4 * words);
+            let mut longer = with_options(&packet, &any, &[]);
+            assert_eq!(usize::from(longer[0]), 0x45 + words);
+            assert_eq!(check(&longer), Ok(Good::Checked));
+            *longer.last_mut().unwrap() ^= 1;
+            assert_eq!(check(&longer), Err(Refusal::BadSum));
+        }
+    }
+    let bare = with_options(&udp(), &ROUTER_ALERT, &[(30, 0), (31, 0)]);
+    assert_eq!(check(&bare), Ok(Good::WithoutChecksum));
+}
+
+#[test]
+fn headers_with_options_that_are_refused() {
+    for (change, why) in [
+        ((0, 0x44), Refusal::NotIpv4),
+        ((0, 0x40), Refusal::NotIpv4),
+        ((0, 0x56), Refusal::NotIpv4),
+        ((0, 0x06), Refusal::NotIpv4),
+        ((3, 19), Refusal::BadTotal),
+        ((3, 23), Refusal::BadTotal),
+        ((3, 24), Refusal::Cut),
+        ((3, 37), Refusal::Short),
+        ((6, 0x80), Refusal::Reserved),
+        ((6, 0x20), Refusal::Piece),
+        ((9, 2), Refusal::OtherProtocol),
+        ((29, 13), Refusal::Cut),
+    ] {
+        let packet = with_options(&udp(), &ROUTER_ALERT, &[change]);
+        assert_eq!(check(&packet), Err(why), "{change:?}");
+    }
+    let alert = with_options(&udp(), &ROUTER_ALERT, &[]);
+    for count in [19, 20, 23, 24, 35] {
+        assert_eq!(check(&alert[..count]), Err(Refusal::Short), "{count}");
+    }
+    for at in 20..24 {
+        let mut unsummed = alert.clone();
+        unsummed[at] ^= 1;
+        assert_eq!(check(&unsummed), Err(Refusal::BadHeader), "{at}");
+    }
+    let first_twenty = changed(alert, &[]);
+    assert_eq!(check(&first_twenty), Err(Refusal::BadHeader));
+    let longest = with_options(&udp(), &[0x01; 40], &[]);
+    for count in [59, 60, 71] {
+        assert_eq!(check(&longest[..count]), Err(Refusal::Short), "{count}");
+    }
+    let none_there = changed(udp(), &[(0, 0x4f)]);
+    assert_eq!(check(&none_there), Err(Refusal::BadTotal));
 }
 
 #[test]

@@ -1,42 +1,19 @@
-// Every answer of the check, run: each line says what is true of a packet, the length of the smallest
-// such packet, and what the check answers.
-use inspect::check;
-use inspect::check::Checked;
-use libc::STDOUT_FILENO;
+// Every answer of the check, run: each line says what is true of a packet, its length, which without
+// options is that of the smallest such packet, and what the check answers.
+mod options;
+mod shown;
 
-fn say(words: &[u8]) {
-    io::write_all(STDOUT_FILENO, words);
-}
-
-fn say_checked(answer: Checked) {
-    match answer {
-        Checked::Good => {
-            say(b"good\n");
-        }
-        Checked::NoChecksum => {
-            say(b"good without checksum\n");
-        }
-        Checked::Refused(n) => {
-            say(b"refused ");
-            io::print_decimal(STDOUT_FILENO, n as u64);
-            say(b"\n");
-        }
-    }
-}
-
-fn show(words: &[u8], packet: &[u8]) {
-    say(words);
-    say(b", ");
-    io::print_decimal(STDOUT_FILENO, packet.len() as u64);
-    say(b" bytes: ");
-    say_checked(check::check(packet));
-}
+use shown::show;
 
 fn headers() {
     show(b"fewer than 20 bytes", b"");
     show(
-        b"first byte is not 0x45",
-        b"\x00\x00\x00\x00\x00\x00\x00\x00\x00\x00\x00\x00\x00\x00\x00\x00\x00\x00\x00\x00",
+        b"version is not 4",
+        b"\x55\x00\x00\x14\x00\x00\x00\x00\x00\x00\x00\x00\x00\x00\x00\x00\x00\x00\x00\x00",
+    );
+    show(
+        b"header under 5 words",
+        b"\x44\x00\x00\x14\x00\x00\x00\x00\x00\x00\x00\x00\x00\x00\x00\x00\x00\x00\x00\x00",
     );
     show(
         b"total length below 20",
@@ -114,4 +91,5 @@ fn main() {
     reserved();
     kinds();
     sums();
+    options::each();
 }

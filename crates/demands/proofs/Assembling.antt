@@ -6,20 +6,20 @@ use mathlib.Core.List.{List, [], _∷_, _++_, append-assoc, append-nil, List·Me
 use Prim.Native.Nat.{ℕ, _+_, _-_, _*_, _≤_, _<_, min}
 use native.Mathlib.Omega.{arith}
 use lib.ListN.{length, take, length-append}
-use lib.Seq.{slice, length-slice, take-at, drop-at, take-length}
+use lib.Seq.{slice, length-slice, take-length}
 use borrow.Author.Tests.{eq-eqb}
 use Rattle.pkt.specs.Answers.{Answer, gives, mapped}
-use Rattle.pkt.specs.Rfc791.{ipHeader}
+use Rattle.pkt.specs.Rfc1071.{checksum}
+use Rattle.pkt.specs.Rfc791.{ipBytes, ipHeader}
 use Rattle.pkt.specs.declared.ipv4.«ip_hdr».{«ip_hdr»}
 use Rattle.pkt.proofs.Choice.{pick-no}
-use Rattle.pkt.proofs.Headers.{ip-length}
 use Rattle.ezpkt.specs.Build.{startOf, endOf, moreFollow, pieceIp, piecePacket, packetOf}
 use Rattle.ezpkt.specs.Ip4.{fragmentOf}
 use Rattle.ezpkt.specs.declared.ip4.Template.{Template}
 use Rattle.ezpkt.specs.declared.build.IpPiece.{IpPiece}
 use Rattle.inspect.specs.Header.{readAnswer, dataOf}
-use Rattle.inspect.specs.Encoded.{readOf}
-use Rattle.inspect.proofs.Decoding.{decoded, Fit}
+use Rattle.inspect.specs.Encoded.{readOf, IpFit}
+use Rattle.inspect.proofs.Decoding.{decoded, data-is}
 use Rattle.assembly.specs.declared.Key.{Key}
 use Rattle.assembly.specs.Piece.{Piece, end, Holds, Acceptable}
 use Rattle.assembly.specs.Assembly.{State, opened, step, run, complete, heldBytes}
@@ -63,7 +63,7 @@ module _ (C M : ℕ) (most : C ≤ capacity) (bits : C ≤ 64 * M) (t : Template
     unfolding asked body
     body-length = length-slice (startOf asked (length d)) (endOf asked (length d)) d (omega arith)
 
-    fit : Fit header
+    fit : IpFit header
     unfolding asked header
     fit = piece-fit asked (20 + (endOf asked (length d) - startOf asked (length d))) m (one .fits) low (omega arith)
 
@@ -82,14 +82,9 @@ module _ (C M : ℕ) (most : C ≤ capacity) (bits : C ≤ 64 * M) (t : Template
 
     -- what is read is the cut
     piece-is : pieceOf wire (readOf header) ≡ requested d off len
-    unfolding asked m body header wire readOf requested
+    unfolding asked m body header wire ipHeader readOf requested
     piece-is =
-        let n : ℕ = endOf asked (length d) - startOf asked (length d) in
-        let size : 20 + n - 20 ≡ length body = omega (arith, body-length) in
-        let held : dataOf (readOf header) wire ≡ slice (startOf asked (length d)) (endOf asked (length d)) d =
-        ap (take (20 + n - 20)) (drop-at (ipHeader header) (body ++ rest) 20 (ip-length header))
-        ∙ take-at body rest (20 + n - 20) (sym size)
-        in
+        let held : dataOf (readOf header) wire ≡ body = data-is header (checksum (ipBytes header 0)) body rest (omega (arith, body-length)) in
         λ i. piece (flags-offset asked m low i) (flags-more asked m low i) (held i)
 
     -- A piece that ends within the C is accepted, and carries the cut.

@@ -1,26 +1,19 @@
 -- What the check answers of the packets that are built.
 use mathlib.Core.Path.{_≡_, refl, sym, ap, ap₂, _∙_}
 use mathlib.Core.Bool.{Bool, true, false, not, cond}
-use Prim.Native.Nat.{ℕ, _+_, _-_, _≤_, _<_}
+use Prim.Native.Nat.{ℕ, _+_, _-_, _≤_}
 use native.Mathlib.Omega.{arith}
 use mathlib.Core.List.{List, _++_, append-assoc}
-use lib.ListN.{length, take, length-append}
-use lib.Seq.{slice, length-slice, take-length}
+use lib.ListN.{length, take}
+use lib.Seq.{slice, take-length}
 use lib.Dec.{eqb}
 use borrow.Author.Tests.{eqb-true, not-false}
 use Rattle.pkt.specs.Answers.{Answer, refused, gives}
 use Rattle.pkt.specs.Rfc791.{ipHeader}
-use Rattle.pkt.specs.Rfc768.{udpHeader, udpChecksum}
-use Rattle.pkt.specs.Rfc9293.{tcpHeader, tcpChecksum}
-use Rattle.pkt.specs.Rfc792.{echoHeader, echoChecksum, icmpNew, echoNew}
-use Rattle.pkt.specs.declared.ipv4.«ip_hdr».{«ip_hdr»}
-use Rattle.pkt.specs.declared.ipv4.«udp_hdr».{«udp_hdr»}
-use Rattle.pkt.specs.declared.ipv4.«icmp_hdr».{«icmp_hdr»}
-use Rattle.pkt.specs.declared.ipv4.«icmp_echo_hdr».{«icmp_echo_hdr»}
+use Rattle.pkt.specs.Rfc792.{icmpNew, echoNew}
 use Rattle.pkt.specs.Fields.{Bytes}
 use Rattle.pkt.proofs.Choice.{or-no}
-use Rattle.pkt.proofs.Headers.{tcp-length, udp-length, echo-length}
-use Rattle.ezpkt.specs.Build.{flowIp, tcpHdr, tcpPacket, udpHdr, udpPacket, echoType, echoPacket, startOf, endOf, moreFollow, pieceIp, pieceSize, piecePacket, packetOf, answerOf}
+use Rattle.ezpkt.specs.Build.{tcpHdr, tcpPacket, udpHdr, udpPacket, echoType, echoPacket, startOf, endOf, moreFollow, pieceIp, pieceSize, piecePacket, packetOf, answerOf}
 use Rattle.ezpkt.specs.declared.build.TcpSegment.{TcpSegment}
 use Rattle.ezpkt.specs.declared.build.UdpDatagram.{UdpDatagram}
 use Rattle.ezpkt.specs.declared.build.IcmpEcho.{IcmpEcho}
@@ -31,69 +24,43 @@ use Rattle.ezpkt.proofs.Deciding.{sized-fits, datagram-fits, piece-fits}
 use Rattle.inspect.specs.Answers.{Verdict, good}
 use Rattle.inspect.specs.Check.{ofMany, isPiece, partAnswer, checkAnswer}
 use Rattle.inspect.specs.Encoded.{readOf}
-use Rattle.inspect.proofs.Decoding.{check-encoded, Fit}
+use Rattle.inspect.proofs.Decoding.{check-encoded}
 use Rattle.inspect.proofs.Sent.{piece-refused, tcp-good, udp-good, echo-good}
-use Rattle.demands.specs.Ranges.{Fitting, Between, InRange}
+use Rattle.demands.specs.Ranges.{Fitting, InRange}
 use Rattle.demands.specs.Checked.{checkOf}
-use Rattle.demands.proofs.Pieces.{piece-evil, piece-fit, piece-read}
+use Rattle.demands.specs.Options.{Parts}
+use Rattle.demands.proofs.Pieces.{piece-evil, piece-read}
+use Rattle.demands.proofs.Parts.{tcp-parts, udp-parts, echo-parts, piece-parts}
 
--- an encoded header with its data part, which is answered v where it is no piece
-judged : (h : «ip_hdr») (d r : List ℕ) (v : Answer Verdict) → Fit h → h .«tot_len» ≡ 20 + length d
-    → (isPiece (readOf h) ≡ false → partAnswer (readOf h) d ≡ v) → checkAnswer ((ipHeader h ++ d) ++ r) ≡ cond (readOf h .evil) (refused 18) (cond (isPiece (readOf h)) (refused 13) v)
-judged h d r v fit e whole =
-    ap checkAnswer (append-assoc (ipHeader h) d r)
-    ∙ check-encoded h d r fit e
-    ∙ ap (λ (a : Answer Verdict). cond (readOf h .evil) (refused 18) a) (go (isPiece (readOf h)) refl)
+-- A header with its data part, which is answered v where it is no piece.
+judged : (x : Parts) (r : List ℕ) (v : Answer Verdict) → (isPiece (readOf (x .header)) ≡ false → partAnswer (readOf (x .header)) (x .part) ≡ v)
+    → checkAnswer ((ipHeader (x .header) ++ x .part) ++ r) ≡ cond (readOf (x .header) .evil) (refused 18) (cond (isPiece (readOf (x .header))) (refused 13) v)
+judged x r v whole =
+    ap checkAnswer (append-assoc (ipHeader (x .header)) (x .part) r)
+    ∙ check-encoded (x .header) (x .part) r (x .fits) (x .total)
+    ∙ ap (λ (a : Answer Verdict). cond (readOf (x .header) .evil) (refused 18) a) (go (isPiece (readOf (x .header))) refl)
   where
-    go : (t : Bool) → isPiece (readOf h) ≡ t → partAnswer (readOf h) d ≡ cond t (refused 13) v
-    go true q = piece-refused (readOf h) d q
+    go : (t : Bool) → isPiece (readOf (x .header)) ≡ t → partAnswer (readOf (x .header)) (x .part) ≡ cond t (refused 13) v
+    go true q = piece-refused (readOf (x .header)) (x .part) q
     go false q = whole q
-
-pub flow-fit : (p size frag s d : ℕ) → p < 256 → size < 65536 → frag < 65536 → Between s d → Fit (flowIp p size frag s d)
-flow-fit p size frag s d hp hn hf hb =
-    record {
-      tos = omega arith;
-      total = hn;
-      id = omega arith;
-      frag = hf;
-      ttl = omega arith;
-      protocol = hp;
-      saddr = hb .0;
-      daddr = hb .1;
-    }
 
 tcp-checked : (t : TcpSegment) (p r : List ℕ) → InRange (Tcp t) → Bytes p → length p ≤ 65495 → checkAnswer (tcpPacket t p ++ r) ≡ checkOf (Tcp t) p
 unfolding tcpPacket readOf
 tcp-checked t p r range bp few =
-    let h : «ip_hdr» = flowIp 6 (40 + length p) (t .«frag_off») (t .saddr) (t .daddr) in
-    let c : ℕ = tcpChecksum (t .saddr) (t .daddr) (tcpHdr t) p in
-    let d : List ℕ = tcpHeader (tcpHdr t) c ++ p in
-    let size : length d ≡ 20 + length p = length-append (tcpHeader (tcpHdr t) c) p ∙ ap (λ (n : ℕ). n + length p) (tcp-length (tcpHdr t) c) in
-    let fit = flow-fit 6 (40 + length p) (t .«frag_off») (t .saddr) (t .daddr) (omega arith) (omega arith) (range .0) (range .1) in
-    judged h d r (gives good) fit (omega arith) (λ whole. tcp-good (readOf h) p bp whole (tcpHdr t) refl)
+    let x : Parts = tcp-parts t p range few in
+    judged x r (gives good) (λ whole. tcp-good (readOf (x .header)) p bp whole (tcpHdr t) refl)
 
 udp-checked : (u : UdpDatagram) (p r : List ℕ) → InRange (Udp u) → Bytes p → length p ≤ 65507 → checkAnswer (udpPacket u p ++ r) ≡ checkOf (Udp u) p
 unfolding udpPacket readOf
 udp-checked u p r range bp few =
-    let h : «ip_hdr» = flowIp 17 (28 + length p) (u .«frag_off») (u .saddr) (u .daddr) in
-    let x : «udp_hdr» = udpHdr u (length p) in
-    let c : ℕ = udpChecksum (u .saddr) (u .daddr) x p in
-    let d : List ℕ = udpHeader x c ++ p in
-    let size : length d ≡ 8 + length p = length-append (udpHeader x c) p ∙ ap (λ (n : ℕ). n + length p) (udp-length x c) in
-    let fit = flow-fit 17 (28 + length p) (u .«frag_off») (u .saddr) (u .daddr) (omega arith) (omega arith) (range .0) (range .1) in
-    judged h d r (gives good) fit (omega arith) (λ whole. udp-good (readOf h) p bp whole x refl refl (omega arith))
+    let x : Parts = udp-parts u p range few in
+    judged x r (gives good) (λ whole. udp-good (readOf (x .header)) p bp whole (udpHdr u (length p)) refl refl (omega arith))
 
 echo-checked : (e : IcmpEcho) (p r : List ℕ) → InRange (Echo e) → Bytes p → length p ≤ 65507 → checkAnswer (echoPacket e p ++ r) ≡ checkOf (Echo e) p
 unfolding echoPacket readOf
 echo-checked e p r range bp few =
-    let h : «ip_hdr» = flowIp 1 (28 + length p) 0 (e .saddr) (e .daddr) in
-    let i : «icmp_hdr» = icmpNew (echoType (e .reply)) in
-    let n : «icmp_echo_hdr» = echoNew (e .seq) in
-    let c : ℕ = echoChecksum i n p in
-    let d : List ℕ = echoHeader i n c ++ p in
-    let size : length d ≡ 8 + length p = length-append (echoHeader i n c) p ∙ ap (λ (k : ℕ). k + length p) (echo-length i n c) in
-    let fit = flow-fit 1 (28 + length p) 0 (e .saddr) (e .daddr) (omega arith) (omega arith) (omega arith) range in
-    judged h d r (gives good) fit (omega arith) (λ whole. echo-good (readOf h) p bp whole i n refl)
+    let x : Parts = echo-parts e p range few in
+    judged x r (gives good) (λ whole. echo-good (readOf (x .header)) p bp whole (icmpNew (echoType (e .reply))) (echoNew (e .seq)) refl)
 
 -- ---- pieces
 
@@ -116,17 +83,13 @@ module _ (q : IpPiece) (p : List ℕ) where
   pub piece-checked : (r : List ℕ) → Fitting (q .template) → q .off ≤ 8191 → length p ≤ 65515 → checkAnswer (piecePacket q p ++ r) ≡ checkOf (Piece q) p
   unfolding piecePacket
   piece-checked r fits off few =
-      let start : ℕ = startOf q (length p) in
-      let end : ℕ = endOf q (length p) in
+      let x : Parts = piece-parts q p fits off few in
+      let size : ℕ = pieceSize q (length p) in
       let m : Bool = moreFollow q (length p) in
-      let h : «ip_hdr» = pieceIp q (20 + (end - start)) m in
-      let d : List ℕ = slice start end p in
-      let size : length d ≡ end - start = length-slice start end p (omega arith) in
       let v : Answer Verdict = partAnswer (readOf (pieceIp q (20 + length p) false)) p in
-      let field = piece-read q (20 + (end - start)) m off in
-      let fit = piece-fit q (20 + (end - start)) m fits off (omega arith) in
-      judged h d r v fit (omega arith) (λ whole. whole-piece (λ k t l. partAnswer (readOf (pieceIp q k t)) l) (sym field ∙ whole))
-      ∙ ap₂ (λ (e t : Bool). cond e (refused 18) (cond t (refused 13) v)) (piece-evil q (20 + (end - start)) m off) field
+      let field = piece-read q size m off in
+      judged x r v (λ whole. whole-piece (λ k t l. partAnswer (readOf (pieceIp q k t)) l) (sym field ∙ whole))
+      ∙ ap₂ (λ (e t : Bool). cond e (refused 18) (cond t (refused 13) v)) (piece-evil q size m off) field
 
 -- ---- all four
 

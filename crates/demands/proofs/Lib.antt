@@ -1,5 +1,6 @@
 pub mod Left
 pub mod Pieces
+pub mod Parts
 pub mod Handing
 pub mod Assembling
 pub mod Checked
@@ -22,3 +23,4 @@ pub mod Mending
 pub mod Reported
 pub mod Expected
 pub mod Reporting
+pub mod Options

@@ -18,7 +18,7 @@ use Rattle.tcp4.specs.declared.TcpFlow.{TcpFlow}
 use Rattle.pieces.specs.declared.BlockRequest.{BlockRequest}
 use Rattle.inspect.specs.Answers.{good}
 use Rattle.inspect.specs.Answers as inspect
-use Rattle.inspect.specs.Header.{fieldAt, headerOf, frameAnswer, summed, unreserved, readAnswer, dataOf}
+use Rattle.inspect.specs.Header.{headerOf, notIpv4, frameAnswer, summed, unreserved, readAnswer, dataOf}
 use Rattle.inspect.specs.Check.{isPiece, isOther, tcpCut, isCut, wholeAnswer, verifiesBehindPseudo, verdictOf, checkAnswer, examineAnswer}
 use Rattle.inspect.specs.declared.header.IpRead.{IpRead}
 use Rattle.inspect.specs.declared.check.Kind.{Kind}
@@ -131,7 +131,7 @@ module _ (ns : List ℕ) (four : isIn 4 ns ≡ true) (five : isIn 5 ns ≡ true)
   unfolding frameAnswer
   frame-in l =
       refusing ns (ltb (length l) 20) 4 _ four
-      (refusing ns (not (eqb (fieldAt l 0 1) 0x45)) 5 _ five
+      (refusing ns (notIpv4 l) 5 _ five
       (refusing ns (ltb (headerOf l .end) (headerOf l .start)) 6 _ six (refusing ns (ltb (length l) (headerOf l .end)) 4 _ four (accepted _))))
 
   -- and 18

@@ -9,9 +9,8 @@ use Rattle.ezpkt.specs.Build.{flagBit, pieceFlags, pieceIp}
 use Rattle.ezpkt.specs.declared.build.IpPiece.{IpPiece}
 use Rattle.inspect.specs.Header.{hasBit}
 use Rattle.inspect.specs.Check.{ofMany, isPiece}
-use Rattle.inspect.specs.Encoded.{readOf}
+use Rattle.inspect.specs.Encoded.{readOf, IpFit}
 use Rattle.demands.specs.Ranges.{Fitting}
-use Rattle.inspect.proofs.Decoding.{Fit}
 
 ones : Bool → ℕ
 ones b = flagBit b 1
@@ -54,7 +53,7 @@ pub piece-evil : (q : IpPiece) (size : ℕ) (m : Bool) → q .off ≤ 8191 → r
 unfolding readOf
 piece-evil q size m h = flags-evil q m h
 
-pub piece-fit : (q : IpPiece) (size : ℕ) (m : Bool) → Fitting (q .template) → q .off ≤ 8191 → size < 65536 → Fit (pieceIp q size m)
+pub piece-fit : (q : IpPiece) (size : ℕ) (m : Bool) → Fitting (q .template) → q .off ≤ 8191 → size < 65536 → IpFit (pieceIp q size m)
 piece-fit q size m fits off few =
     record {
       tos = fits .tos;

@@ -1,21 +1,19 @@
 -- A packet that a flow sends counts for the side that sends it: the check passes it, and both of its headers are read back.
 use mathlib.Core.Path.{_≡_, refl, sym, ap, ap₂, _∙_}
 use mathlib.Core.Bool.{Bool, true, false, _&&_, cond}
-use mathlib.Core.List.{List, _++_}
-use Prim.Native.Nat.{ℕ, _+_, _-_, _≤_, _<_}
+use mathlib.Core.List.{List, [], _++_, append-nil}
+use Prim.Native.Nat.{ℕ, _+_, _≤_, _<_}
 use native.Mathlib.Omega.{arith}
-use lib.ListN.{length, take, length-append}
-use lib.Seq.{take-length, drop-at}
+use lib.ListN.{length}
 use lib.Dec.{eqb}
 use borrow.Author.Tests.{eq-eqb}
-use Rattle.pkt.specs.Answers.{refused, gives}
-use Rattle.pkt.specs.Rfc791.{ipHeader}
-use Rattle.pkt.specs.Rfc9293.{tcpHeader, tcpChecksum, ACK}
+use Rattle.pkt.specs.Rfc1071.{checksum}
+use Rattle.pkt.specs.Rfc791.{ipBytes, ipHeader}
+use Rattle.pkt.specs.Rfc9293.{tcpChecksum, ACK}
 use Rattle.pkt.specs.declared.ipv4.«ip_hdr».{«ip_hdr»}
 use Rattle.pkt.specs.declared.ipv4.«tcp_hdr».{«tcp_hdr»}
 use Rattle.pkt.proofs.Choice.{pick-no, same-test}
-use Rattle.pkt.proofs.Headers.{ip-length, tcp-length}
-use Rattle.ezpkt.specs.Build.{flowIp, tcpHdr, tcpPacket}
+use Rattle.ezpkt.specs.Build.{tcpHdr, tcpPacket}
 use Rattle.ezpkt.specs.declared.SocketAddrV4.{SocketAddrV4}
 use Rattle.ezpkt.specs.declared.build.TcpSegment.{TcpSegment}
 use Rattle.ezpkt.specs.declared.build.Request.the-variants.{Tcp}
@@ -27,9 +25,9 @@ use Rattle.inspect.specs.Header.{dataOf}
 use Rattle.inspect.specs.Check.{checkAnswer}
 use Rattle.inspect.specs.Tcp.{tcpReadAnswer}
 use Rattle.inspect.specs.Encoded.{readOf, TcpFit}
-use Rattle.inspect.proofs.Decoding.{decoded}
-use Rattle.inspect.proofs.Reading.{was-read}
+use Rattle.inspect.proofs.Decoding.{data-is, framed-is}
 use Rattle.inspect.proofs.Standing.{tcp-back}
+use Rattle.mending.proofs.Encoded.{tcp-size}
 use Rattle.reporting.specs.Sides.{sideAfter}
 use Rattle.reporting.specs.Packets.{isPassed, sameEnd, addressed, goes, sided, segmentIn, classOf}
 use Rattle.reporting.specs.Report.{reportAfter}
@@ -38,7 +36,8 @@ use Rattle.reporting.proofs.Sorting.{of-client, of-server, passed-own}
 use Rattle.demands.specs.Ranges.{InRange}
 use Rattle.demands.specs.Checked.{reservedField, pieceField, checkOf}
 use Rattle.demands.specs.Reporting.{TwoEnds, Passable}
-use Rattle.demands.proofs.Checked.{flow-fit}
+use Rattle.demands.specs.Options.{Parts}
+use Rattle.demands.proofs.Parts.{tcp-parts}
 
 -- ---- a segment between any two ends
 
@@ -46,23 +45,20 @@ use Rattle.demands.proofs.Checked.{flow-fit}
 packet-class : (cl sv : SocketAddrV4) (t : TcpSegment) (b : List ℕ) → InRange (Tcp t) → TcpFit (tcpHdr t) → reservedField (t .«frag_off») ≡ false
     → pieceField (t .«frag_off») ≡ false → length b ≤ 65495 → checkAnswer (tcpPacket t b) ≡ checkOf (Tcp t) b
     → sided cl sv (addressed (t .saddr) (t .sport)) (addressed (t .daddr) (t .dport)) (segmentIn (tcpHdr t) (20 + length b)) ≡ classOf cl sv (tcpPacket t b)
-unfolding tcpPacket readOf
+unfolding tcpPacket ipHeader readOf
 packet-class cl sv t b range fit clear whole few checked =
-    let h : «ip_hdr» = flowIp 6 (40 + length b) (t .«frag_off») (t .saddr) (t .daddr) in
-    let c : ℕ = tcpChecksum (t .saddr) (t .daddr) (tcpHdr t) b in
-    let d : List ℕ = tcpHeader (tcpHdr t) c ++ b in
+    let x : Parts = tcp-parts t b range few in
+    let h : «ip_hdr» = x .header in
+    let d : List ℕ = x .part in
     let p : List ℕ = ipHeader h ++ d in
-    let size : length d ≡ 20 + length b = length-append (tcpHeader (tcpHdr t) c) b ∙ ap (λ (n : ℕ). n + length b) (tcp-length (tcpHdr t) c) in
-    let header-fit = flow-fit 6 (40 + length b) (t .«frag_off») (t .saddr) (t .daddr) (omega arith) (omega arith) (range .0) (range .1) in
-    let read = decoded h d header-fit (omega arith) (omega arith) ∙ pick-no (refused 18) (gives (readOf h)) clear in
-    let n : 40 + length b - 20 ≡ length d = omega arith in
-    let part : dataOf (readOf h) p ≡ d = ap₂ take n (drop-at (ipHeader h) d 20 (ip-length h)) ∙ take-length d in
+    let c : ℕ = tcpChecksum (t .saddr) (t .daddr) (tcpHdr t) b in
+    let part : dataOf (readOf h) p ≡ d = simp append-nil at (data-is h (checksum (ipBytes h 0)) d [] (x .total)) in
     passed-own cl sv p (readOf h) (tcpHdr t) _
     (ap isPassed (checked ∙ pick-no _ _ clear ∙ pick-no _ _ whole))
-    (was-read p (readOf h) read .0)
+    (framed-is h (checksum (ipBytes h 0)) d (x .fits) (omega (arith, x .total)) (omega (arith, x .total)))
     refl
     (ap tcpReadAnswer part ∙ tcp-back (tcpHdr t) c b fit)
-    (ap (λ (k : ℕ). sided cl sv (addressed (t .saddr) (t .sport)) (addressed (t .daddr) (t .dport)) (segmentIn (tcpHdr t) k)) (sym size ∙ ap length (sym part)))
+    (ap (λ (k : ℕ). sided cl sv (addressed (t .saddr) (t .sport)) (addressed (t .daddr) (t .dport)) (segmentIn (tcpHdr t) k)) (sym (tcp-size b c (tcpHdr t)) ∙ ap length (sym part)))
 
 -- ---- the two sides of a flow
 

@@ -27,8 +27,7 @@ use Rattle.ezpkt.specs.declared.build.Request.{Request}
 use Rattle.ezpkt.specs.declared.build.Request.the-variants.{Tcp, Udp, Echo, Piece}
 use Rattle.ezpkt.proofs.Deciding.{sized-fits, datagram-fits}
 use Rattle.inspect.specs.Check.{isPiece}
-use Rattle.inspect.specs.Encoded.{readOf}
-use Rattle.inspect.proofs.Decoding.{Fit}
+use Rattle.inspect.specs.Encoded.{readOf, IpFit}
 use Rattle.inspect.proofs.Numbers.{take-bytes, drop-bytes}
 use Rattle.mending.specs.Sums.{sumsIn, mendPacket}
 use Rattle.mending.specs.Packets.{AllRight}
@@ -36,7 +35,7 @@ use Rattle.mending.proofs.Packets.{packets-mended}
 use Rattle.mending.proofs.Encoded.{ip-bytes, evil-kept, piece-kept, tcp-size, tcp-bytes, tcp-mended, udp-size, udp-bytes, udp-mended, echo-size, echo-bytes, echo-mended}
 use Rattle.demands.specs.Ranges.{Between}
 use Rattle.demands.specs.Mending.{Asked, Transport, Whole, readdressed, between}
-use Rattle.demands.proofs.Checked.{flow-fit}
+use Rattle.demands.proofs.Parts.{flow-fit}
 
 -- ---- an encoded header with its data part d
 
@@ -44,7 +43,7 @@ encoded-bytes : (h : «ip_hdr») (d : List ℕ) → Bytes d → Bytes (ipHeader 
 unfolding ipHeader
 encoded-bytes h d bd = bytes-append (ipHeader h) d (ip-bytes h (checksum (ipBytes h 0))) bd
 
-module _ (h : «ip_hdr») (fit : Fit h) (d : List ℕ) (total : h .«tot_len» ≡ 20 + length d) where
+module _ (h : «ip_hdr») (fit : IpFit h) (d : List ℕ) (total : h .«tot_len» ≡ 20 + length d) where
   -- A piece, and a packet whose reserved bit is set, is mended to itself whatever its sums are.
   itself : (readOf h .evil ≡ false → isPiece (readOf h) ≡ false → mendPacket (ipHeader h ++ d) ≡ ipHeader h ++ d) → mendPacket (ipHeader h ++ d) ≡ ipHeader h ++ d
   unfolding ipHeader
@@ -76,7 +75,7 @@ module _ (t : TcpSegment) (p : List ℕ) (a : Asked (Tcp t) p) where
   abbrev tcpIp : ℕ → ℕ → «ip_hdr»
   tcpIp s d = flowIp 6 (40 + length p) (t .«frag_off») s d
 
-  tcp-fit : (s d : ℕ) → Between s d → Fit (tcpIp s d)
+  tcp-fit : (s d : ℕ) → Between s d → IpFit (tcpIp s d)
   tcp-fit s d ends =
       let few = sized-fits 65495 40 (length p) (a .room) (a .size) (a .taken) .few in
       flow-fit 6 (40 + length p) (t .«frag_off») s d (omega arith) (omega arith) (a .range .0) ends
@@ -115,7 +114,7 @@ module _ (u : UdpDatagram) (p : List ℕ) (a : Asked (Udp u) p) where
   abbrev y : «udp_hdr»
   y = udpHdr u (length p)
 
-  udp-fit : (s d : ℕ) → Between s d → Fit (udpIp s d)
+  udp-fit : (s d : ℕ) → Between s d → IpFit (udpIp s d)
   udp-fit s d ends =
       let few = datagram-fits u (length p) (a .room) (a .size) (a .taken) .few in
       flow-fit 17 (28 + length p) (u .«frag_off») s d (omega arith) (omega arith) (a .range .0) ends
@@ -154,7 +153,7 @@ module _ (e : IcmpEcho) (p : List ℕ) (a : Asked (Echo e) p) where
   abbrev n : «icmp_echo_hdr»
   n = echoNew (e .seq)
 
-  echo-fit : (s d : ℕ) → Between s d → Fit (echoIp s d)
+  echo-fit : (s d : ℕ) → Between s d → IpFit (echoIp s d)
   echo-fit s d ends =
       let few = sized-fits 65507 28 (length p) (a .room) (a .size) (a .taken) .few in
       flow-fit 1 (28 + length p) 0 s d (omega arith) (omega arith) (omega arith) ends

@@ -6,7 +6,7 @@ use Rattle.pkt.specs.Rfc791.{ipBytes, ipHeader}
 use Rattle.pkt.specs.Rfc768.{nonzero, pseudo, udpHeader, udpChecksum}
 use Rattle.pkt.specs.Rfc9293.{tcpHeader, tcpChecksum}
 use Rattle.ezpkt.specs.Build.{tcpPacket, udpPacket, piecePacket}
-use Rattle.inspect.specs.Header.{fieldAt, headerOf, frameAnswer, readAnswer}
+use Rattle.inspect.specs.Header.{fieldAt, headerOf, notIpv4, frameAnswer, readAnswer}
 use Rattle.inspect.specs.Encoded.{readOf}
 use Rattle.assembly.specs.Map.{blockBit, setBit, mark, marked}
 use Rattle.assembly.specs.Assembly.{step, clashes, endClash, byteClash, accept, newTotal, newFloor, heldTo, totalFits, recordFits, outcome}
@@ -17,5 +17,5 @@ use Rattle.demands.specs.Worked.{AllHold, syn, datagram, handshake, numb
 
 -- 'Checked by hand': "Those marked P are proved together, as a single statement over a list of cases".
 pub worked : AllHold cases
-unfolding templateKey readOf syn datagram handshake numbersAt rolled pieceAt fieldAndData fieldAt value tcpPacket udpPacket piecePacket ipHeader ipBytes tcpHeader tcpChecksum udpHeader udpChecksum nonzero pseudo checksum words sum plus takeAnswer usable sized recordFits totalFits pieceAnswer headAnswer keyedAnswer fitAnswer broken sameKey readAnswer frameAnswer headerOf step clashes endClash byteClash accept newTotal newFloor outcome heldTo marked mark setBit blockBit
+unfolding templateKey readOf syn datagram handshake numbersAt rolled pieceAt fieldAndData fieldAt value tcpPacket udpPacket piecePacket ipHeader ipBytes tcpHeader tcpChecksum udpHeader udpChecksum nonzero pseudo checksum words sum plus takeAnswer usable sized recordFits totalFits pieceAnswer headAnswer keyedAnswer fitAnswer broken sameKey readAnswer frameAnswer notIpv4 headerOf step clashes endClash byteClash accept newTotal newFloor outcome heldTo marked mark setBit blockBit
 worked = (refl, (refl, (refl, (refl, (refl, (refl, (refl, (refl, (refl, (refl, (refl, (refl, (refl, (refl, (refl, (refl, tt))))))))))))))))

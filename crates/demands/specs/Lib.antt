@@ -16,4 +16,5 @@ pub mod Tabled
 pub mod Laps
 pub mod Plans
 pub mod Mending
+pub mod Options
 pub mod Reporting

@@ -200,11 +200,20 @@ fn changed(words: &[u8], i: usize, byte: u8) {
 
 fn headers() {
     cut_short();
-    changed(b"first byte 0x46:", 0, 0x46);
+    changed(b"version 5:", 0, 0x55);
+    changed(b"a header of 4 words:", 0, 0x44);
+    changed(b"a header of 10 words, and 36 bytes:", 0, 0x4a);
     changed(b"total length 19:", 3, 19);
     changed(b"another TTL under the same checksum:", 8, 63);
     changed(b"the same TTL:", 8, 64);
     changed(b"the reserved bit set under the same checksum:", 6, 0xa0);
+}
+
+fn router_alert() {
+    say(b"8 bytes behind router alert:");
+    first(
+        b"\x46\x00\x00\x20\x00\x00\x00\x00\x40\x11\xd1\xc6\x0a\x00\x00\x01\x0a\x00\x00\x02\x94\x04\x00\x00\x61\x20\x70\x69\x65\x63\x65\x21",
+    );
 }
 
 // Hands a datagram with these flags and this offset to an empty table.
@@ -252,5 +261,6 @@ fn main() {
     map_sizes();
     records();
     headers();
+    router_alert();
     ends();
 }

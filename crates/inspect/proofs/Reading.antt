@@ -8,16 +8,17 @@ use lib.ListN.{length, take, length-append, length-take}
 use lib.Dec.{ltb, eqb}
 use borrow.Author.Tests.{le-ltb, ltb-false, not-false, eqb-true}
 use Rattle.pkt.specs.Answers.{Answer, refused, gives, andThen}
-use Rattle.inspect.specs.Header.{fieldAt, headerOf, lengthField, frameAnswer, summed, unreserved, readAnswer}
+use Rattle.inspect.specs.Header.{versionField, wordsField, lengthField, headerOf, notIpv4, frameAnswer, summed, unreserved, readAnswer}
 use Rattle.inspect.specs.declared.header.IpRead.{IpRead}
 use Rattle.pkt.specs.Fields.{Bytes}
+use Rattle.pkt.proofs.Choice.{or-no}
 use Rattle.pkt.proofs.Deciding.{past, held}
 use Rattle.inspect.proofs.Numbers.{field-below, part-front, field-front}
 use Rattle.pkt.specs.Rfc1071.{verifies}
 
 -- What is known of a header h that was read from l, up to its checksum.
 pub record Framed (l : List ℕ) (h : IpRead) : Type 0 where
-  pub first : fieldAt l 0 1 ≡ 0x45
+  pub version : versionField l ≡ 4
   pub is : h ≡ headerOf l
   pub least : 20 ≤ h .start
   pub most : h .start ≤ 60
@@ -25,18 +26,27 @@ pub record Framed (l : List ℕ) (h : IpRead) : Type 0 where
   pub all : h .end ≤ length l
   pub offset : h .off ≤ 8191
 
+-- The version of an IPv4 packet is 4, and its header has 20 bytes at least.
+pub ipv4-least : (l : List ℕ) → notIpv4 l ≡ false → (versionField l ≡ 4) × (20 ≤ headerOf l .start)
+unfolding headerOf notIpv4
+ipv4-least l e =
+    let o = or-no (not (eqb (versionField l) 4)) (ltb (wordsField l) 5) e in
+    let five = ltb-false (wordsField l) 5 (o .1) in
+    (eqb-true (versionField l) 4 (not-false (eqb (versionField l) 4) (o .0)), omega arith)
+
 pub framed : (l : List ℕ) (h : IpRead) → frameAnswer l ≡ gives h → Framed l h
 unfolding frameAnswer headerOf
 framed l h e =
     let a = past (ltb (length l) 20) 4 _ h e in
-    let b = past (not (eqb (fieldAt l 0 1) 0x45)) 5 _ h (a .1) in
+    let b = past (notIpv4 l) 5 _ h (a .1) in
+    let v = ipv4-least l (b .0) in
     let d = past (ltb (headerOf l .end) (headerOf l .start)) 6 _ h (b .1) in
     let f = past (ltb (length l) (headerOf l .end)) 4 _ h (d .1) in
     let q : headerOf l ≡ h = cc (f .1) in
     record {
-      first = eqb-true (fieldAt l 0 1) 0x45 (not-false (eqb (fieldAt l 0 1) 0x45) (b .0));
+      version = v .0;
       is = sym q;
-      least = rw (← q) (omega arith);
+      least = rw (← q) (v .1);
       most = rw (← q) (omega arith);
       order = rw (← q) (ltb-false (headerOf l .end) (headerOf l .start) (d .0));
       all = rw (← q) (ltb-false (length l) (headerOf l .end) (f .0));
@@ -90,6 +100,7 @@ header-front : (n : ℕ) (l r : List ℕ) → 20 ≤ n → n ≤ length l → he
 unfolding headerOf
 header-front n l r h m =
     simp (
+      field-front 0 1 n l r (omega arith) m,
       field-front 1 1 n l r (omega arith) m,
       field-front 2 2 n l r (omega arith) m,
       field-front 4 2 n l r (omega arith) m,
@@ -106,7 +117,7 @@ end-is l = refl
 
 module _ (l r : List ℕ) (long : 20 ≤ lengthField l) (there : lengthField l ≤ length l) where
   frame-front : frameAnswer (take (lengthField l) l ++ r) ≡ frameAnswer l
-  unfolding frameAnswer
+  unfolding frameAnswer notIpv4
   frame-front =
       let n : ℕ = lengthField l in
       let m : List ℕ = take n l ++ r in

@@ -36,6 +36,17 @@ readOf h =
       end = h .«tot_len»;
     }
 
+-- The numbers of an IPv4 header fit their fields, as those of the code's types do.
+pub record IpFit (h : «ip_hdr») : Type 0 where
+  pub tos : h .tos < 256
+  pub total : h .«tot_len» < 65536
+  pub id : h .id < 65536
+  pub frag : h .«frag_off» < 65536
+  pub ttl : h .ttl < 256
+  pub protocol : h .protocol < 256
+  pub saddr : h .saddr < 4294967296
+  pub daddr : h .daddr < 4294967296
+
 -- The checksum that is put into a header stands at its place there.
 pub record SumsStand : Type 0 where
   pub ip : (h : «ip_hdr») (rest : List ℕ) → fieldAt (ipHeader h ++ rest) ipSumAt 2 ≡ checksum (ipBytes h 0)
@@ -43,7 +54,7 @@ pub record SumsStand : Type 0 where
   pub udp : (h : «udp_hdr») (c : ℕ) (rest : List ℕ) → c ≤ 65535 → fieldAt (udpHeader h c ++ rest) udpSumAt 2 ≡ c
   pub echo : (h : «icmp_hdr») (e : «icmp_echo_hdr») (c : ℕ) (rest : List ℕ) → c ≤ 65535 → fieldAt (echoHeader h e c ++ rest) echoSumAt 2 ≡ c
 
--- The numbers of a TCP header fit their fields, as those of the code's types do.
+-- So do those of a TCP header.
 pub record TcpFit (h : «tcp_hdr») : Type 0 where
   pub sport : h .sport < 65536
   pub dport : h .dport < 65536

@@ -1,6 +1,7 @@
--- Which bytes are an IPv4 packet, and what its header says: RFC 791, 3.1, document 01's numbers 4 to 7, and document 02's 18.
-use Prim.Native.Nat.{ℕ, _-_, _/_, _%_}
-use mathlib.Core.Bool.{Bool, false, not, cond}
+-- Which bytes are an IPv4 packet, and what its header says: RFC 791, 3.1, document 01's numbers 4 to 7, document 02's 18, and its T-11: "The header
+-- reader shall accept header lengths of 5 to 15 words, sum the whole header, pass over the options and answer where the data starts."
+use Prim.Native.Nat.{ℕ, _-_, _*_, _/_, _%_}
+use mathlib.Core.Bool.{Bool, false, not, _||_, cond}
 use mathlib.Core.List.{List}
 use lib.ListN.{length, take, drop}
 use lib.Dec.{ltb, eqb}
@@ -15,6 +16,13 @@ use Rattle.inspect.specs.declared.header.IpRead.{IpRead}
 unfoldable pub fieldAt : List ℕ → ℕ → ℕ → ℕ
 fieldAt l at k = value 0 (take k (drop at l))
 
+-- the halves of the first byte: the version, and the header's length in words of four bytes
+abbrev pub versionField : List ℕ → ℕ
+versionField l = fieldAt l 0 1 / 16
+
+abbrev pub wordsField : List ℕ → ℕ
+wordsField l = fieldAt l 0 1 % 16
+
 -- the total length that l names
 abbrev pub lengthField : List ℕ → ℕ
 lengthField l = fieldAt l 2 2
@@ -24,7 +32,7 @@ abbrev pub hasBit : ℕ → ℕ → Bool
 hasBit n x = eqb (x / n % 2) 1
 
 -- 3.1, in the figure's order; "0x8000 is reserved .., 0x4000 DF, 0x2000 MF, and the low 13 bits are the offset ..". The data part runs from
--- the header's end to the total length.
+-- the header's end, behind its options, to the total length.
 unfoldable pub headerOf : List ℕ → IpRead
 headerOf l =
     record {
@@ -39,15 +47,19 @@ headerOf l =
       protocol = fieldAt l 9 1;
       saddr = fieldAt l 12 4;
       daddr = fieldAt l 16 4;
-      start = 20;
+      start = 4 * wordsField l;
       end = lengthField l;
     }
 
--- Numbers 4 (under 20), 5, 6 and 4 (total): what the header says of a packet that is all there.
+-- "5 now means version not 4 or header length under 5 words"
+unfoldable pub notIpv4 : List ℕ → Bool
+notIpv4 l = not (eqb (versionField l) 4) || ltb (wordsField l) 5
+
+-- Numbers 4 (under 20), 5, 6 ("total length under the header length") and 4 (total): what the header says of a packet that is all there.
 unfoldable pub frameAnswer : List ℕ → Answer IpRead
 frameAnswer l =
     cond (ltb (length l) 20) (refused 4)
-    (cond (not (eqb (fieldAt l 0 1) 0x45)) (refused 5)
+    (cond (notIpv4 l) (refused 5)
     (cond (ltb (headerOf l .end) (headerOf l .start)) (refused 6)
     (cond (ltb (length l) (headerOf l .end)) (refused 4) (gives (headerOf l)))))
 

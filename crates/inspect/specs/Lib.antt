@@ -3,3 +3,4 @@ pub mod Header
 pub mod Check
 pub mod Tcp
 pub mod Encoded
+pub mod Options

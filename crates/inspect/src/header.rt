@@ -8,10 +8,10 @@ ghost use Prim.Native.Nat.{_+_, _≤_};
 ghost use lib.ListN.{length};
 ghost use Rattle.inspect.specs.Answers.{readSays};
 ghost use Rattle.pkt.specs.Answers.{andThen};
-ghost use Rattle.inspect.specs.Header.{fieldAt, headerOf, frameAnswer, isZero, summed, unreserved, readAnswer};
+ghost use Rattle.inspect.specs.Header.{fieldAt, headerOf, notIpv4, frameAnswer, isZero, summed, unreserved, readAnswer};
 ghost use Rattle.pkt.specs.Rfc1071.{verifies};
 
-// What a packet's header says. Its data is the bytes from start up to, not including, end.
+// What a packet's header says. Its data is the bytes from start, behind the options, up to, not including, end.
 pub struct IpRead {
     pub tos: u8,
     pub tot_len: u16,
@@ -77,9 +77,18 @@ fn fields(packet: &[u8]) -> IpRead
         protocol: be8(packet, 9),
         saddr: be32(packet, 12),
         daddr: be32(packet, 16),
-        start: 20,
+        start: 4 * (be8(packet, 0) % 16) as usize,
         end: size as usize,
     }
+}
+
+// Whether the version is not 4, or the header has under 5 words.
+fn not_ipv4(packet: &[u8]) -> bool
+    requires { ⌜ 1 ≤ length (now packet) ⌝ }
+    ensures { λ r. ⌜ r ≡ notIpv4 (now (packet .entry)) ⌝ }
+{
+    let first = be8(packet, 0);
+    first / 16 != 4 || first % 16 < 5
 }
 
 // The header of a packet that is all there, whatever its checksum.
@@ -90,7 +99,7 @@ pub fn frame(packet: &[u8]) -> Seen
     if n < 20 {
         return Seen::Refused(refusal::SHORT);
     }
-    if be8(packet, 0) != 0x45 {
+    if not_ipv4(packet) {
         return Seen::Refused(refusal::NOT_IPV4);
     }
     let h = fields(packet);

@@ -1,15 +1,14 @@
 -- What is encoded and then damaged in its sums is mended to what was encoded.
-use mathlib.Core.Path.{_≡_, refl, sym, ap, _∙_}
-use mathlib.Core.Bool.{Bool, true, false, cond}
-use mathlib.Core.Logic.{inl}
-use Prim.Native.Nat.{ℕ, _+_, _-_, _≤_, _<_}
+use mathlib.Core.Path.{_≡_, refl, sym, ap, ap₂, _∙_}
+use mathlib.Core.Bool.{true, false}
+use Prim.Native.Nat.{ℕ, _+_, _≤_, _<_}
 use native.Mathlib.Omega.{arith}
-use mathlib.Core.List.{List, _++_}
+use mathlib.Core.List.{List, [], _++_, append-nil}
 use lib.ListN.{length, take, drop, length-append}
 use lib.Seq.{take-at}
 use Rattle.pkt.specs.Answers.{Answer, refused, gives, mapped, andThen}
-use Rattle.pkt.specs.Fields.{field, Bytes, widths}
-use Rattle.pkt.specs.Rfc1071.{checksum, verifies}
+use Rattle.pkt.specs.Fields.{field, fields, Bytes, widths}
+use Rattle.pkt.specs.Rfc1071.{checksum}
 use Rattle.pkt.specs.Rfc768.{udpFields, udpHeader, udpChecksum}
 use Rattle.pkt.specs.Rfc791.{ipFields, ipBytes, ipHeader}
 use Rattle.pkt.specs.Rfc792.{echoFields, echoHeader, echoChecksum}
@@ -22,32 +21,31 @@ use Rattle.pkt.specs.declared.ipv4.«icmp_echo_hdr».{«icmp_echo_hdr»}
 use Rattle.pkt.proofs.Bytes.{bytes-append}
 use Rattle.pkt.proofs.Choice.{pick-yes, pick-no}
 use Rattle.pkt.proofs.Fields.{field-at, fields-bytes}
-use Rattle.pkt.proofs.Headers.{ip-length, tcp-length, udp-length, echo-length}
+use Rattle.pkt.proofs.Headers.{tcp-length, udp-length, echo-length}
 use Rattle.inspect.specs.Answers.{whole}
 use Rattle.inspect.specs.Check.{isPiece, wholeAnswer, examineAnswer}
-use Rattle.inspect.specs.Encoded.{readOf}
-use Rattle.inspect.specs.Header.{fieldAt, frameAnswer, summed, unreserved, readAnswer, dataOf}
+use Rattle.inspect.specs.Encoded.{readOf, IpFit}
+use Rattle.inspect.specs.Header.{fieldAt, frameAnswer, unreserved, dataOf}
+use Rattle.inspect.specs.Options.{Options, optionFields, optionBytes, optionHeader, pastOptions}
 use Rattle.inspect.specs.declared.header.IpRead.{IpRead}
 use Rattle.inspect.specs.declared.check.Kind.{Kind}
-use Rattle.inspect.specs.declared.check.Kind.the-variants.{Tcp, Udp, Icmp}
-use Rattle.inspect.proofs.Decoding.{Fit, decoded}
-use Rattle.inspect.proofs.Reading.{was-read}
+use Rattle.inspect.specs.declared.check.Kind.the-variants.{Tcp, Udp, Bare, Icmp}
+use Rattle.inspect.proofs.Decoding.{no-options, option-length, option-data, option-framed, plain-bytes, plain, framed-is}
 use Rattle.inspect.proofs.Standing.{sums-stand, tcp-offset}
 use Rattle.mending.specs.Sums.{renewed, ipSum, mendPacket}
 use Rattle.mending.proofs.Renewed.{renewed-behind, renewed-front}
 use Rattle.mending.proofs.Wholes.{Shape, tcp, udp, icmp, sumAt, shape-long, Known, examined}
-use Rattle.mending.proofs.Kept.{frame-kept}
 use Rattle.mending.proofs.Anew.{partSum, mended}
 use Rattle.mending.proofs.Packets.{refused-stays, mended-is}
 
 -- A header with another number for its checksum.
-ip-renewed : (h : «ip_hdr») (x y : ℕ) (l : List ℕ) → renewed 10 y (ipBytes h x ++ l) ≡ ipBytes h y ++ l
-unfolding ipBytes renewed
-ip-renewed h x y l = refl
+option-renewed : (h : «ip_hdr») (os : List ℕ) (x y : ℕ) (l : List ℕ) → renewed 10 y (optionBytes h os x ++ l) ≡ optionBytes h os y ++ l
+unfolding optionBytes renewed
+option-renewed h os x y l = refl
 
-header-renewed : (h : «ip_hdr») (x : ℕ) (l : List ℕ) → renewed 10 x (ipHeader h ++ l) ≡ ipBytes h x ++ l
-unfolding ipHeader
-header-renewed h x l = ip-renewed h (checksum (ipBytes h 0)) x l
+option-bytes : (h : «ip_hdr») (os : List ℕ) (x : ℕ) → Bytes os → Bytes (optionBytes h os x)
+unfolding optionBytes
+option-bytes h os x b = bytes-append (fields (optionFields h (length os) x)) os (fields-bytes (optionFields h (length os) x)) b
 
 pub ip-bytes : (h : «ip_hdr») (x : ℕ) → Bytes (ipBytes h x)
 unfolding ipBytes
@@ -61,80 +59,88 @@ protocol-is : (h : «ip_hdr») → readOf h .protocol ≡ h .protocol
 unfolding readOf
 protocol-is h = refl
 
--- A header that is refused by 18 once it verifies has its reserved bit set.
-was-evil : (g : IpRead) (v : Bool) → andThen (cond v (gives g) (refused 7)) unreserved ≡ refused 18 → g .evil ≡ true
-was-evil g true e = go (g .evil) e
-  where
-    go : (t : Bool) → cond t (refused 18) (gives g) ≡ refused 18 → t ≡ true
-    go true q = refl
-    go false q = let z : _≡_ {A = ℕ} 0 1 = cc in absurd (omega arith)
-was-evil g false e = let z : _≡_ {A = ℕ} 7 18 = cc in absurd (omega arith)
+-- The number that belongs into a part does not depend on the places.
+sum-same : (k : Kind) (n : ℕ) (g : IpRead) (d : List ℕ) → partSum k (pastOptions n g) d ≡ partSum k g d
+unfolding partSum
+sum-same Tcp n g d = refl
+sum-same Udp n g d = refl
+sum-same Bare n g d = refl
+sum-same Icmp n g d = refl
 
--- ---- behind such a header h, with any number x in its field, the data part d and the bytes r
+-- ---- behind such a header h, with any number x in its field, options os, the data part d and the bytes r
 
-module _ (h : «ip_hdr») (fit : Fit h) (x : ℕ) (d r : List ℕ) (total : h .«tot_len» ≡ 20 + length d) where
-  data-is : dataOf (readOf h) (ipBytes h x ++ (d ++ r)) ≡ d
-  unfolding ipBytes readOf
-  data-is = take-at d r (h .«tot_len» - 20) (omega arith)
+module _ (h : «ip_hdr») (fit : IpFit h) (os : List ℕ) (ok : Options os) (few : length os + h .«tot_len» < 65536)
+    (x : ℕ) (d r : List ℕ) (total : h .«tot_len» ≡ 20 + length d) where
+  l : List ℕ
+  l = optionBytes h os x ++ (d ++ r)
 
-  read-is : readAnswer (ipHeader h ++ (d ++ r)) ≡ unreserved (readOf h)
-  read-is = decoded h (d ++ r) fit (omega arith) (omega (arith, length-append d r))
+  g : IpRead
+  g = pastOptions (length os) (readOf h)
 
-  frame-same : frameAnswer (ipBytes h x ++ (d ++ r)) ≡ frameAnswer (ipHeader h ++ (d ++ r))
-  frame-same = ap frameAnswer (sym (header-renewed h x (d ++ r))) ∙ frame-kept 10 x (ipHeader h ++ (d ++ r)) (inl refl)
+  seen : frameAnswer l ≡ gives g
+  unfolding l g
+  seen = option-framed h os ok x (d ++ r) fit few (omega arith) (omega (arith, length-append d r))
 
-  ip-sum-is : ipSum (readOf h) (ipBytes h x ++ (d ++ r)) ≡ checksum (ipBytes h 0)
-  unfolding ipBytes readOf renewed
-  ip-sum-is = refl
+  start-at : g .start ≡ length (optionBytes h os x)
+  unfolding g
+  start-at = omega (arith, start-is h, option-length h os x)
 
-  module _ (clear : readOf h .evil ≡ false) where
-    frame-is : frameAnswer (ipBytes h x ++ (d ++ r)) ≡ gives (readOf h)
-    frame-is = frame-same ∙ was-read (ipHeader h ++ (d ++ r)) (readOf h) (read-is ∙ pick-no (refused 18) (gives (readOf h)) clear) .0
+  ip-sum-is : ipSum g l ≡ checksum (optionBytes h os 0)
+  unfolding l
+  ip-sum-is =
+      ap (λ (b : List ℕ). checksum (renewed 10 0 b)) (take-at (optionBytes h os x) (d ++ r) (g .start) (sym start-at))
+      ∙ ap (λ (b : List ℕ). checksum (renewed 10 0 b)) (sym (append-nil (optionBytes h os x)))
+      ∙ ap checksum (option-renewed h os x 0 [] ∙ append-nil (optionBytes h os 0))
 
-    -- What is whole gets its two sums.
-    encoded-mended : (k : Kind) → isPiece (readOf h) ≡ false → Shape (readOf h .protocol) d k → Bytes d → Bytes r
-        → mendPacket (ipBytes h x ++ (d ++ r)) ≡ ipHeader h ++ (renewed (sumAt k) (partSum k (readOf h) d) d ++ r)
-    unfolding mended ipHeader
-    encoded-mended k piece shape bd br =
-        let g : IpRead = readOf h in
-        let l : List ℕ = ipBytes h x ++ (d ++ r) in
-        let y : ℕ = partSum k g d in
-        let q : Known l g k = record { frame = frame-is; clear = clear; piece = piece; shape = rw data-is shape } in
-        mended-is l (whole g k) (bytes-append (ipBytes h x) (d ++ r) (ip-bytes h x) (bytes-append d r bd br)) (examined l g k q)
-        ∙ ap (λ (e : List ℕ). renewed (g .start + sumAt k) (partSum k g e) (renewed 10 (ipSum g l) l)) data-is
-        ∙ ap (λ (c : ℕ). renewed (g .start + sumAt k) y (renewed 10 c l)) ip-sum-is
-        ∙ ap (renewed (g .start + sumAt k) y) (ip-renewed h x (checksum (ipBytes h 0)) (d ++ r))
-        ∙ ap (λ (n : ℕ). renewed (n + sumAt k) y (ipHeader h ++ (d ++ r))) (start-is h ∙ sym (ip-length h))
-        ∙ renewed-behind (ipHeader h) (d ++ r) (sumAt k) y
-        ∙ ap (λ (m : List ℕ). ipHeader h ++ m) (renewed-front d r (sumAt k) y (shape-long shape .1))
+  -- What is whole gets its two sums.
+  pub option-mended : readOf h .evil ≡ false → (k : Kind) → isPiece (readOf h) ≡ false → Shape (readOf h .protocol) d k → Bytes d → Bytes r
+      → mendPacket (optionBytes h os x ++ (d ++ r)) ≡ optionHeader h os ++ (renewed (sumAt k) (partSum k (readOf h) d) d ++ r)
+  unfolding mended optionHeader l g
+  option-mended clear k piece shape bd br =
+      let y : ℕ = partSum k (readOf h) d in
+      let c : ℕ = checksum (optionBytes h os 0) in
+      let data-is = option-data h os x d r total in
+      let q : Known l g k = record { frame = seen; clear = clear; piece = piece; shape = rw data-is shape } in
+      mended-is l (whole g k) (bytes-append (optionBytes h os x) (d ++ r) (option-bytes h os x (ok .bytes)) (bytes-append d r bd br)) (examined l g k q)
+      ∙ ap (λ (e : List ℕ). renewed (g .start + sumAt k) (partSum k g e) (renewed 10 (ipSum g l) l)) data-is
+      ∙ ap₂ (λ (y c : ℕ). renewed (g .start + sumAt k) y (renewed 10 c l)) (sum-same k (length os) (readOf h) d) ip-sum-is
+      ∙ ap (renewed (g .start + sumAt k) y) (option-renewed h os x c (d ++ r))
+      ∙ ap (λ (n : ℕ). renewed (n + sumAt k) y (optionHeader h os ++ (d ++ r))) (start-at ∙ option-length h os x ∙ sym (option-length h os c))
+      ∙ renewed-behind (optionHeader h os) (d ++ r) (sumAt k) y
+      ∙ ap (λ (m : List ℕ). optionHeader h os ++ m) (renewed-front d r (sumAt k) y (shape-long shape .1))
 
-    -- A piece is kept.
-    pub piece-kept : isPiece (readOf h) ≡ true → mendPacket (ipBytes h x ++ (d ++ r)) ≡ ipBytes h x ++ (d ++ r)
-    unfolding examineAnswer wholeAnswer
-    piece-kept piece =
-        let g : IpRead = readOf h in
-        let l : List ℕ = ipBytes h x ++ (d ++ r) in
-        refused-stays l 13
-        (ap (λ (a : Answer IpRead). andThen (andThen a unreserved) (λ f. mapped (whole f) (wholeAnswer f (dataOf f l)))) frame-is
-        ∙ ap (λ (a : Answer IpRead). andThen a (λ f. mapped (whole f) (wholeAnswer f (dataOf f l)))) (pick-no (refused 18) (gives g) clear)
-        ∙ ap (mapped (whole g)) (pick-yes (refused 13) _ piece))
+-- ---- without options
+
+module _ (h : «ip_hdr») (fit : IpFit h) (x : ℕ) (d r : List ℕ) (total : h .«tot_len» ≡ 20 + length d) where
+  frame-is : frameAnswer (ipBytes h x ++ (d ++ r)) ≡ gives (readOf h)
+  frame-is = framed-is h x (d ++ r) fit (omega arith) (omega (arith, length-append d r))
+
+  pub encoded-mended : readOf h .evil ≡ false → (k : Kind) → isPiece (readOf h) ≡ false → Shape (readOf h .protocol) d k → Bytes d → Bytes r
+      → mendPacket (ipBytes h x ++ (d ++ r)) ≡ ipHeader h ++ (renewed (sumAt k) (partSum k (readOf h) d) d ++ r)
+  encoded-mended clear k piece shape bd br =
+      ap (λ (b : List ℕ). mendPacket (b ++ (d ++ r))) (sym (plain-bytes h x))
+      ∙ option-mended h fit [] no-options (omega (arith, fit .total)) x d r total clear k piece shape bd br
+      ∙ ap (λ (b : List ℕ). b ++ (renewed (sumAt k) (partSum k (readOf h) d) d ++ r)) (plain h)
+
+  -- A piece is kept.
+  pub piece-kept : readOf h .evil ≡ false → isPiece (readOf h) ≡ true → mendPacket (ipBytes h x ++ (d ++ r)) ≡ ipBytes h x ++ (d ++ r)
+  unfolding examineAnswer wholeAnswer
+  piece-kept clear piece =
+      let g : IpRead = readOf h in
+      let l : List ℕ = ipBytes h x ++ (d ++ r) in
+      refused-stays l 13
+      (ap (λ (a : Answer IpRead). andThen (andThen a unreserved) (λ f. mapped (whole f) (wholeAnswer f (dataOf f l)))) frame-is
+      ∙ ap (λ (a : Answer IpRead). andThen a (λ f. mapped (whole f) (wholeAnswer f (dataOf f l)))) (pick-no (refused 18) (gives g) clear)
+      ∙ ap (mapped (whole g)) (pick-yes (refused 13) _ piece))
 
   -- A packet whose reserved bit is set is kept.
   pub evil-kept : readOf h .evil ≡ true → mendPacket (ipBytes h x ++ (d ++ r)) ≡ ipBytes h x ++ (d ++ r)
-  unfolding examineAnswer readAnswer
-  evil-kept evil = go (frameAnswer (ipHeader h ++ (d ++ r))) refl (read-is ∙ pick-yes (refused 18) (gives (readOf h)) evil)
-    where
-      go : (a : Answer IpRead) → frameAnswer (ipHeader h ++ (d ++ r)) ≡ a → andThen (andThen a (summed (ipHeader h ++ (d ++ r)))) unreserved ≡ refused 18
-          → mendPacket (ipBytes h x ++ (d ++ r)) ≡ ipBytes h x ++ (d ++ r)
-      go (refused n) e q =
-          let l : List ℕ = ipBytes h x ++ (d ++ r) in
-          refused-stays l n (ap (λ (a : Answer IpRead). andThen (andThen a unreserved) (λ f. mapped (whole f) (wholeAnswer f (dataOf f l)))) (frame-same ∙ e))
-      go (gives g) e q =
-          let l : List ℕ = ipBytes h x ++ (d ++ r) in
-          let set : g .evil ≡ true = was-evil g (verifies (take (g .start) (ipHeader h ++ (d ++ r)))) q in
-          refused-stays l 18
-          (ap (λ (a : Answer IpRead). andThen (andThen a unreserved) (λ f. mapped (whole f) (wholeAnswer f (dataOf f l)))) (frame-same ∙ e)
-          ∙ ap (λ (a : Answer IpRead). andThen a (λ f. mapped (whole f) (wholeAnswer f (dataOf f l)))) (pick-yes (refused 18) (gives g) set))
+  unfolding examineAnswer
+  evil-kept evil =
+      let l : List ℕ = ipBytes h x ++ (d ++ r) in
+      refused-stays l 18
+      (ap (λ (a : Answer IpRead). andThen (andThen a unreserved) (λ f. mapped (whole f) (wholeAnswer f (dataOf f l)))) frame-is
+      ∙ ap (λ (a : Answer IpRead). andThen a (λ f. mapped (whole f) (wholeAnswer f (dataOf f l)))) (pick-yes (refused 18) (gives (readOf h)) evil))
 
 -- ---- transport parts: a header with the number c for its checksum and the payload p
 
@@ -191,7 +197,7 @@ module _ (p : List ℕ) (c : ℕ) where
 -- ---- what this library's encoders write, with any numbers for the sums
 
 -- behind a header whose reserved bit is clear and that is no piece's, with the bytes r behind it
-module _ (h : «ip_hdr») (fit : Fit h) (clear : readOf h .evil ≡ false) (piece : isPiece (readOf h) ≡ false)
+module _ (h : «ip_hdr») (fit : IpFit h) (clear : readOf h .evil ≡ false) (piece : isPiece (readOf h) ≡ false)
     (x : ℕ) (p r : List ℕ) (bp : Bytes p) (br : Bytes r) where
   -- a TCP segment
   pub tcp-mended : (t : «tcp_hdr») (c : ℕ) → h .protocol ≡ 6 → h .«tot_len» ≡ 20 + length (tcpHeader t c ++ p)

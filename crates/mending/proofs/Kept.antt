@@ -5,7 +5,7 @@ use Prim.Native.Nat.{ℕ, _+_, _-_, _≤_}
 use native.Mathlib.Omega.{arith}
 use mathlib.Core.List.{List}
 use lib.ListN.{take, drop}
-use Rattle.inspect.specs.Header.{fieldAt, headerOf, frameAnswer, dataOf}
+use Rattle.inspect.specs.Header.{fieldAt, headerOf, notIpv4, frameAnswer, dataOf}
 use Rattle.inspect.specs.declared.header.IpRead.{IpRead}
 use Rattle.mending.specs.Sums.{renewed}
 use Rattle.mending.proofs.Renewed.{renewed-length, take-within, drop-behind, drop-within, field-before, field-behind, field-take, field-drop}
@@ -33,6 +33,7 @@ module _ (i x : ℕ) (l : List ℕ) (place : (i ≡ 10) ⊎ (20 ≤ i)) where
   unfolding headerOf
   header-kept =
       simp (
+        low 0 1 (omega arith),
         low 1 1 (omega arith),
         low 2 2 (omega arith),
         low 4 2 (omega arith),
@@ -44,7 +45,7 @@ module _ (i x : ℕ) (l : List ℕ) (place : (i ≡ 10) ⊎ (20 ≤ i)) where
       )
 
   pub frame-kept : frameAnswer (renewed i x l) ≡ frameAnswer l
-  unfolding frameAnswer
+  unfolding frameAnswer notIpv4
   frame-kept = simp (renewed-length i x l, low 0 1 (omega arith), header-kept)
 
 -- ---- the data part

@@ -81,8 +81,9 @@ without-header l h b e =
     let f = framed l h e in
     let n : ℕ = h .start in
     let front : List ℕ = take n l in
-    let first : fieldAt (renewed 10 0 front) 0 1 ≡ 0x45 =
-    field-before 0 1 10 0 front (omega arith) ∙ field-take 0 1 n l (omega arith) ∙ f .first in
+    let first : fieldAt (renewed 10 0 front) 0 1 ≡ fieldAt l 0 1 =
+    field-before 0 1 10 0 front (omega arith) ∙ field-take 0 1 n l (omega arith) in
+    let some : 0 < fieldAt l 0 1 = omega (arith, f .version) in
     let size : length front ≡ n = length-take-le n l (omega arith) in
     ap (λ (w : ℕ). (checksum front + w) % 65535) (sym (field-take 10 2 n l (omega arith)))
     ∙ without 10 front refl (omega arith) (take-bytes n l b) (some-total (renewed 10 0 front) 0 (omega (arith, field-one (renewed 10 0 front) 0)))

@@ -1,6 +1,7 @@
 // Captures mended, run: a line for each says how many bytes it has and what the mender answers, and whether all that was lent beyond what is written
 // is as it was before. Below the line of a mended one stand its changes, the places whose bytes changed, and its packets, each with what the check answers.
 mod bounds;
+mod options;
 mod places;
 mod shown;
 mod traps;
@@ -25,4 +26,5 @@ fn main() {
     stored();
     bounds::each();
     traps::each();
+    options::each();
 }

@@ -6,7 +6,7 @@ use crate::shown::show_into;
 use ezpkt::part::front;
 
 // A capture of one packet.
-fn show(words: &[u8], packet: &[u8]) {
+pub(crate) fn show(words: &[u8], packet: &[u8]) {
     let mut c = [0u8; 128];
     pcap::write_header(&mut c);
     put_record(0, 0, packet, 24, &mut c);
@@ -83,7 +83,10 @@ fn refused() {
 
 // .. among them those whose lengths are wrong.
 fn cut() {
+    show_with(b"with a first byte of 0x55", 0, b"\x55");
+    show_with(b"with a first byte of 0x44", 0, b"\x44");
     show_with(b"with a first byte of 0x46", 0, b"\x46");
+    show_with(b"with a first byte of 0x48", 0, b"\x48");
     show_with(b"with a total length of 19", 2, b"\x00\x13");
     show_with(b"with a UDP length of 9", 24, b"\x00\x09");
     show(

@@ -8,9 +8,9 @@ pub const BAD_OFFSET: u8 = 2;
 pub const NO_ROOM: u8 = 3;
 // Fewer bytes than a header or than the total length.
 pub const SHORT: u8 = 4;
-// The first byte is not 0x45.
+// The version is not 4, or the header length is under 5 words.
 pub const NOT_IPV4: u8 = 5;
-// The total length is below that of the header.
+// The total length is under the header length.
 pub const BAD_TOTAL: u8 = 6;
 // The header's checksum does not verify.
 pub const BAD_HEADER: u8 = 7;

@@ -15,10 +15,6 @@ use Rattle.reporting.specs.declared.Segment.{Segment}
 use Rattle.reporting.specs.declared.Arrival.{Arrival}
 use Rattle.reporting.specs.declared.Arrival.the-variants.{Expected, Early, Late}
 
--- the number that is added to the other to come to the first
-pub ahead-is : (next seq r : ℕ) → next < 2 ^ 32 → r < 2 ^ 32 → (r + next) % 2 ^ 32 ≡ seq → r ≡ ahead next seq
-ahead-is next seq r a b e = omega arith
-
 -- by the distance, where a side has a segment already
 abbrev byGap : ℕ → Arrival
 byGap n = arrivalBy (cond (ltb n halfCycle) (pos n) (negsuc (cycle - 1 - n)))

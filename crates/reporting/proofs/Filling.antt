@@ -112,7 +112,7 @@ few-after k t s f n =
       late = omega (arith, f .late, late-most a);
     }
 
-pub few-more : (j k : ℕ) (t : Tally) → j ≤ k → Few j t → Few k t
+few-more : (j k : ℕ) (t : Tally) → j ≤ k → Few j t → Few k t
 few-more j k t h f =
     record {
       segments = omega (arith, f .segments);

@@ -1,7 +1,7 @@
 -- What a packet that passes the check has, and the class that tests lead to.
 use Prim.Native.Nat.{ℕ, _-_, _≤_}
 use native.Mathlib.Omega.{arith}
-use mathlib.Core.Path.{_≡_, refl, sym, ap, subst, _∙_}
+use mathlib.Core.Path.{_≡_, refl, sym, ap, ap₂, subst, _∙_}
 use mathlib.Core.Bool.{Bool, true, false, _&&_, cond, true≢false}
 use mathlib.Core.List.{List}
 use lib.ListN.{length, length-take, length-drop}
@@ -10,12 +10,14 @@ use borrow.Author.Tests.{eq-eqb, ne-eqb, ltb-false}
 use Rattle.pkt.specs.Answers.{Answer, refused, gives, andThen, mostBytes}
 use Rattle.pkt.specs.Fields.{Bytes}
 use Rattle.pkt.proofs.Choice.{pick-yes, pick-no, or-no}
+use Rattle.pkt.proofs.Deciding.{past}
 use Rattle.pkt.specs.declared.ipv4.«tcp_hdr».{«tcp_hdr»}
 use Rattle.ezpkt.specs.declared.SocketAddrV4.{SocketAddrV4}
 use Rattle.tcp4.specs.declared.Side.the-variants.{Client, Server}
 use Rattle.inspect.specs.Answers.{Verdict}
 use Rattle.inspect.specs.Header.{headerOf, dataOf, frameAnswer, readAnswer}
 use Rattle.inspect.specs.Check.{tcpCut, isCut, isPiece, isOther, wholeAnswer, partAnswer, checkAnswer, verdictOf}
+use Rattle.inspect.specs.Options.{pastOptions}
 use Rattle.inspect.specs.Tcp.{tcpOf, tcpReadAnswer}
 use Rattle.inspect.specs.declared.header.IpRead.{IpRead}
 use Rattle.inspect.proofs.Reading.{was-read, framed, frame-end}
@@ -58,17 +60,12 @@ gave : {A B : Type 0} (a : Answer A) (f : A → Answer B) (b : B) → andThen a 
 gave (gives x) f b e = (x, refl, e)
 gave (refused n) f b e = let z : _≡_ {A = ℕ} 0 1 = cc in absurd (omega arith)
 
--- a choice that gives something does not refuse
-gave-else : {A : Type 0} (t : Bool) (n : ℕ) (a : Answer A) (x : A) → cond t (refused n) a ≡ gives x → (t ≡ false) × (a ≡ gives x)
-gave-else true n a x e = let z : _≡_ {A = ℕ} 0 1 = cc in absurd (omega arith)
-gave-else false n a x e = (refl, e)
-
 -- What passes is framed by its header, and is whole: TCP's part is not cut.
-pub record Passed (p : List ℕ) : Type 0 where
-  pub frame : frameAnswer p ≡ gives (headerOf p)
-  pub whole : isCut (headerOf p .protocol) (dataOf (headerOf p) p) ≡ false
+record Passed (p : List ℕ) : Type 0 where
+  frame : frameAnswer p ≡ gives (headerOf p)
+  whole : isCut (headerOf p .protocol) (dataOf (headerOf p) p) ≡ false
 
-pub was-passed : (p : List ℕ) → passes p ≡ true → Passed p
+was-passed : (p : List ℕ) → passes p ≡ true → Passed p
 unfolding checkAnswer wholeAnswer
 was-passed p e =
     let v = verdict (checkAnswer p) e in
@@ -76,9 +73,9 @@ was-passed p e =
     let f = was-read p (r .0) (r .1) .0 in
     let i = framed p (r .0) f .is in
     let w = gave (wholeAnswer (r .0) (dataOf (r .0) p)) (λ k. verdictOf k (r .0) (dataOf (r .0) p)) (v .0) (r .2) in
-    let a = gave-else (isPiece (r .0)) 13 _ (w .0) (w .1) in
-    let b = gave-else (isOther (r .0 .protocol)) 12 _ (w .0) (a .1) in
-    let c = gave-else (isCut (r .0 .protocol) (dataOf (r .0) p)) 14 _ (w .0) (b .1) in
+    let a = past (isPiece (r .0)) 13 _ (w .0) (w .1) in
+    let b = past (isOther (r .0 .protocol)) 12 _ (w .0) (a .1) in
+    let c = past (isCut (r .0 .protocol) (dataOf (r .0) p)) 14 _ (w .0) (b .1) in
     record { frame = f ∙ ap gives i; whole = ap (λ (h : IpRead). isCut (h .protocol) (dataOf h p)) (sym i) ∙ c .0 }
   where
     verdict : (a : Answer Verdict) → isPassed a ≡ true → (v : Verdict) × (a ≡ gives v)
@@ -89,11 +86,11 @@ was-passed p e =
 uncut : (p : List ℕ) → passes p ≡ true → headerOf p .protocol ≡ 6 → tcpCut (dataOf (headerOf p) p) ≡ false
 uncut p e six = sym (pick-yes (tcpCut (dataOf (headerOf p) p)) _ (eq-eqb _ _ six)) ∙ was-passed p e .whole
 
-pub passed-tcp : (p : List ℕ) → passes p ≡ true → headerOf p .protocol ≡ 6 → tcpReadAnswer (dataOf (headerOf p) p) ≡ gives (tcpOf (dataOf (headerOf p) p))
+passed-tcp : (p : List ℕ) → passes p ≡ true → headerOf p .protocol ≡ 6 → tcpReadAnswer (dataOf (headerOf p) p) ≡ gives (tcpOf (dataOf (headerOf p) p))
 passed-tcp p e six = pick-no (refused 14) (gives (tcpOf (dataOf (headerOf p) p))) (uncut p e six)
 
 -- The part is TCP's header at least, and no more than a packet holds.
-pub tcp-long : (p : List ℕ) → passes p ≡ true → headerOf p .protocol ≡ 6 → 20 ≤ length (dataOf (headerOf p) p)
+tcp-long : (p : List ℕ) → passes p ≡ true → headerOf p .protocol ≡ 6 → 20 ≤ length (dataOf (headerOf p) p)
 tcp-long p e six = ltb-false _ _ (or-no _ _ (uncut p e six) .0)
 
 pub part-few : (p : List ℕ) → Bytes p → passes p ≡ true → length (dataOf (headerOf p) p) ≤ mostBytes
@@ -142,3 +139,12 @@ pub passed-own : (cl sv : SocketAddrV4) (p : List ℕ) (h : IpRead) (t : «tcp_h
 passed-own cl sv p h t r e f six g k =
     k ∙ ap (λ (u : «tcp_hdr»). tcpClass cl sv h u (length (dataOf h p))) (gave-one (tcpReadAnswer (dataOf h p)) t (tcpOf (dataOf h p)) g (read-tcp p h e f six))
     ∙ sym (pick-yes (tcpClass cl sv h (tcpOf (dataOf h p)) (length (dataOf h p))) Other (eq-eqb _ _ six)) ∙ passed-is cl sv p h e f
+
+-- ---- the class does not depend on where the data part is
+
+pub class-alike : (cl sv : SocketAddrV4) (p q : List ℕ) (n : ℕ) → checkAnswer q ≡ checkAnswer p → headerOf q ≡ pastOptions n (headerOf p)
+    → dataOf (headerOf q) q ≡ dataOf (headerOf p) p → classOf cl sv q ≡ classOf cl sv p
+unfolding classOf
+class-alike cl sv p q n e f d =
+    ap₂ (λ (t : Bool) (c : Class). cond t c Failed) (ap isPassed e)
+    (ap (λ (h : IpRead). partClass cl sv h (dataOf (headerOf q) q)) f ∙ ap (partClass cl sv (headerOf p)) d)

@@ -1,4 +1,6 @@
 // Pieces handed in in every order, and every refusal of an assembly, run: each line is a call and what it answers.
+mod options;
+
 use assembly::Key;
 use assembly::Opened;
 use assembly::Progress;
@@ -211,8 +213,12 @@ fn cut_short() {
     first(&whole[0..40]);
 }
 
+// First bytes that are not 0x45: with 0x46 the first four bytes of the segment stand for options.
 fn first_byte() {
     let mut out = segment(CLIENT, 0);
+    out[0] = 0x44;
+    say(b"first byte 0x44:");
+    first(&out);
     out[0] = 0x46;
     say(b"first byte 0x46:");
     first(&out);
@@ -305,22 +311,22 @@ fn datagram(protocol: u8) -> [u8; 52] {
     lap()
 }
 
-// Two blocks of the IPv4 payload of the ping (1) or the telemetry datagram (17).
-fn piece_of(protocol: u8, off: u16) -> [u8; 36] {
+// One or two blocks of the IPv4 payload of the ping (1) or the telemetry datagram (17).
+fn piece_of(protocol: u8, off: u16, len: u16) -> [u8; 36] {
     let whole = datagram(protocol);
     let mut out = [0u8; 36];
     ip4::fragment(
         template_of(protocol),
         part::back(&whole, 20),
         off,
-        2,
+        len,
         &mut out,
     );
     out
 }
 
 fn hand_piece(rec: Rec, protocol: u8, off: u16, payload: &mut [u8], map: &mut [u8]) -> Rec {
-    let out = piece_of(protocol, off);
+    let out = piece_of(protocol, off, 2);
     let taken = assembly::take(rec, &out, payload, map);
     say_taken(taken);
     kept(rec, taken)
@@ -370,4 +376,5 @@ fn main() {
     pieces();
     reserved();
     both();
+    options::each();
 }

@@ -5,16 +5,27 @@ use crate::rng::Rng;
 use vectors::MAX_TCP;
 use wispbundle::{Choices, IcmpFlow, TcpFlow, UdpFlow};
 
-fn be16(bytes: &mut [u8], at: usize, number: u16) {
+pub fn be16(bytes: &mut [u8], at: usize, number: u16) {
     bytes[at..at + 2].copy_from_slice(&number.to_be_bytes());
 }
 
-/// Sets an IPv4 header's checksum right, by the Rust's function.
+/// How many bytes a packet's header has: 20 and its options, as far as they are there.
+pub fn header(packet: &[u8]) -> usize {
+    let told = packet.first().map_or(0, |first| 4 * (first & 0x0f));
+    usize::from(told).max(20).min(packet.len())
+}
+
+/// Sets the checksum of a packet's first bytes right, by the Rust's function.
+pub fn mend_front(packet: &mut [u8], count: usize) {
+    be16(packet, 10, 0);
+    let sum = pkt::ipv4::ip_csum(&packet[..count]);
+    be16(packet, 10, sum);
+}
+
+/// Sets an IPv4 header's checksum right.
 pub fn mend(packet: &mut [u8]) {
     if packet.len() >= 20 {
-        be16(packet, 10, 0);
-        let sum = pkt::ipv4::ip_csum(&packet[..20]);
-        be16(packet, 10, sum);
+        mend_front(packet, header(packet));
     }
 }
 
@@ -46,17 +57,23 @@ pub fn built(rng: &mut Rng) -> Vec<u8> {
 /// One change, after which the header's checksum is mostly set right.
 fn change(rng: &mut Rng, packet: &mut Vec<u8>) {
     let (len, at) = (packet.len(), rng.below(packet.len().max(1)));
-    let in_header = rng.below(20.min(len).max(1));
-    match rng.below(10) {
+    let (size, words) = (header(packet), rng.below(16) as u8);
+    let in_header = rng.below(size.max(1));
+    let part = size.min(len.saturating_sub(8));
+    match rng.below(11) {
         0 => packet.truncate(at),
         1 => packet.extend(vec![rng.u8(); rng.below(9)]),
         _ if len < 28 => packet.push(rng.u8()),
         2 => be16(packet, 2, rng.below(len + 3) as u16),
-        3 => be16(packet, 2, rng.below(30) as u16),
+        3 => be16(packet, 2, rng.below(size + 10) as u16),
         4 => be16(packet, 6, rng.u16()),
         5 => packet[9] = rng.u8(),
-        6 => packet[rng.pick(&[0, 20, 24, 25, 26, 27, len.min(33) - 1])] = rng.u8(),
+        6 => {
+            let last = len.min(part + 13) - 1;
+            packet[rng.pick(&[0, part, part + 4, part + 5, part + 6, part + 7, last])] = rng.u8()
+        }
         7 => packet[in_header] ^= 1 << rng.below(8),
+        8 => packet[0] = rng.pick(&[0x40, 0x40, 0x50]) + words,
         _ => packet[at] ^= 1 << rng.below(8),
     }
     if !rng.once_in(4) {

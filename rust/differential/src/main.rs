@@ -11,6 +11,7 @@ mod damage;
 mod icmp;
 mod lists;
 mod model;
+mod options;
 mod pieces;
 mod records;
 mod rng;

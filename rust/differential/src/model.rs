@@ -1,15 +1,15 @@
 //! Document 01's check and assembly, the latter with document 02's key, written anew and in another
-//! way: bytes and whole pieces, no blocks tested and no floor.
+//! way: bytes and whole pieces, no blocks tested and no floor. Headers are RFC 791's, with options.
 
 use std::net::Ipv4Addr;
 use wispbundle::{Good, Key, MAP_BYTES, Outcome, PAYLOAD_BYTES, Progress, Record, Refusal};
 
-fn be16(bytes: &[u8], at: usize) -> usize {
+pub fn be16(bytes: &[u8], at: usize) -> usize {
     usize::from(bytes[at]) << 8 | usize::from(bytes[at + 1])
 }
 
 /// RFC 1071 word by word, folding at every step.
-fn verifies(parts: &[&[u8]]) -> bool {
+pub fn verifies(parts: &[&[u8]]) -> bool {
     let mut sum = 0_u32;
     for part in parts {
         for pair in part.chunks(2) {
@@ -20,26 +20,29 @@ fn verifies(parts: &[&[u8]]) -> bool {
     sum == 0xffff
 }
 
-/// The packet up to its total length: 4 (under 20), 5, 6, 4 (total), 7, 18.
-fn read(packet: &[u8]) -> Result<&[u8], Refusal> {
+/// The header with its options and the data up to the total length: 4 (under 20), 5, 6, 4 (total), 7,
+/// 18. RFC 791, 3.1: the version is the first byte's high four bits, and its low four, the IHL, are
+/// "the length of the internet header in 32 bit words", which "points to the beginning of the data".
+fn read(packet: &[u8]) -> Result<(&[u8], &[u8]), Refusal> {
     if packet.len() < 20 {
         return Err(Refusal::Short);
     }
-    let total = be16(packet, 2);
+    let (version, ihl) = (packet[0] >> 4, packet[0] & 0x0f);
+    let (header, total) = (usize::from(ihl) << 2, be16(packet, 2));
     match () {
-        _ if packet[0] != 0x45 => Err(Refusal::NotIpv4),
-        _ if total < 20 => Err(Refusal::BadTotal),
+        _ if version != 4 || ihl < 5 => Err(Refusal::NotIpv4),
+        _ if total < header => Err(Refusal::BadTotal),
         _ if packet.len() < total => Err(Refusal::Short),
-        _ if !verifies(&[&packet[..20]]) => Err(Refusal::BadHeader),
+        _ if !verifies(&[&packet[..header]]) => Err(Refusal::BadHeader),
         _ if be16(packet, 6) & 0x8000 != 0 => Err(Refusal::Reserved),
-        _ => Ok(&packet[..total]),
+        _ => Ok(packet[..total].split_at(header)),
     }
 }
 
 pub fn check(packet: &[u8]) -> Result<Good, Refusal> {
-    let packet = read(packet)?;
-    let (data, protocol) = (&packet[20..], packet[9]);
-    if be16(packet, 6) & 0x3fff != 0 {
+    let (header, data) = read(packet)?;
+    let protocol = header[9];
+    if be16(header, 6) & 0x3fff != 0 {
         return Err(Refusal::Piece);
     }
     let cut = match protocol {
@@ -49,7 +52,7 @@ pub fn check(packet: &[u8]) -> Result<Good, Refusal> {
         _ => return Err(Refusal::OtherProtocol),
     };
     let length = (data.len() as u16).to_be_bytes();
-    let pseudo = [&packet[12..20], &[0, protocol], &length].concat();
+    let pseudo = [&header[12..20], &[0, protocol], &length].concat();
     match () {
         _ if cut => Err(Refusal::Cut),
         _ if protocol == 17 && be16(data, 6) == 0 => Ok(Good::WithoutChecksum),
@@ -60,13 +63,13 @@ pub fn check(packet: &[u8]) -> Result<Good, Refusal> {
 }
 
 /// What a header names as its datagram.
-pub fn key_of(packet: &[u8]) -> Key {
-    let addr = |at| Ipv4Addr::new(packet[at], packet[at + 1], packet[at + 2], packet[at + 3]);
+pub fn key_of(header: &[u8]) -> Key {
+    let addr = |at| Ipv4Addr::new(header[at], header[at + 1], header[at + 2], header[at + 3]);
     Key {
         src: addr(12),
         dst: addr(16),
-        id: be16(packet, 4) as u16,
-        protocol: packet[9],
+        id: be16(header, 4) as u16,
+        protocol: header[9],
     }
 }
 
@@ -84,15 +87,15 @@ impl Piece {
 
     /// 4, 5, 6, 4, 7, 18, 8, 9, 10.
     pub fn read(key: Key, packet: &[u8]) -> Result<Self, Refusal> {
-        let packet = read(packet)?;
-        let field = be16(packet, 6);
+        let (header, data) = read(packet)?;
+        let field = be16(header, 6);
         let piece = Self {
             start: 8 * (field & 0x1fff),
-            data: packet[20..].to_vec(),
+            data: data.to_vec(),
             more: field & 0x2000 != 0,
         };
         match () {
-            _ if key_of(packet) != key => Err(Refusal::WrongKey),
+            _ if key_of(header) != key => Err(Refusal::WrongKey),
             _ if piece.more && !piece.data.len().is_multiple_of(8) => Err(Refusal::NotBlocks),
             _ if piece.end() > PAYLOAD_BYTES => Err(Refusal::TooFar),
             _ => Ok(piece),

@@ -12,8 +12,8 @@ pub struct Run {
     pub rng: Rng,
     /// How often a call, by its name in the header, gave a status: 0, or the number of a refusal.
     pub calls: BTreeMap<(&'static str, u8), u64>,
-    /// How often an answer was given that has a line of its own.
-    pub seen: BTreeMap<&'static str, u64>,
+    /// How often something was seen that has a line of its own.
+    pub seen: BTreeMap<String, u64>,
 }
 
 /// The byte at a place of a buffer before a call.
@@ -34,9 +34,9 @@ impl Run {
         self.calls.values().sum()
     }
 
-    /// Counts an answer that is worth a line of its own.
-    pub fn saw(&mut self, what: &'static str) {
-        *self.seen.entry(what).or_default() += 1;
+    /// Counts what is worth a line of its own.
+    pub fn saw(&mut self, what: impl Into<String>) {
+        *self.seen.entry(what.into()).or_default() += 1;
     }
 
     fn called(&mut self, name: &'static str, status: u8) {

@@ -1,7 +1,8 @@
 //! What a run must have seen to count: every call of the archive, carried out and refused by every
-//! number that the documents give it, every answer that is no refusal, and a piece that was refused
-//! for its protocol alone.
+//! number that the documents give it, every answer that is no refusal, a piece that was refused for
+//! its protocol alone, and of headers with options all that `options` names.
 
+use crate::options;
 use crate::run::Run;
 
 const HEADER: &str = include_str!("../../../include/wispbundle.h");
@@ -92,7 +93,8 @@ pub fn faults(run: &Run) -> Vec<String> {
     let owed: Vec<_> = NUMBERS.iter().flat_map(statuses).collect();
     let made = owed.iter().filter(|call| !run.calls.contains_key(call));
     let other = run.calls.keys().filter(|call| !owed.contains(call));
-    let given = ANSWERS.iter().filter(|what| !run.seen.contains_key(*what));
+    let lines = ANSWERS.map(String::from).into_iter().chain(options::owed());
+    let given = lines.filter(|what| !run.seen.contains_key(what));
     let mut faults: Vec<_> = made
         .map(|call| format!("never seen: {}", words(call)))
         .collect();

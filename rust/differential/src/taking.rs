@@ -2,7 +2,7 @@
 
 use crate::rng::Rng;
 use crate::run::{Compared, Run};
-use crate::{damage, model, pieces};
+use crate::{damage, model, options, pieces};
 use wispbundle::{
     Assembly, Key, MAP_BYTES, Outcome, PAYLOAD_BYTES, Progress, Record, Refusal, Template,
 };
@@ -24,8 +24,8 @@ fn piece(rng: &mut Rng, template: &Template, payload: &[u8], len: u16) -> Vec<u8
     out
 }
 
-/// What is taken: mostly a piece as it was cut with the reserved bit clear, and else one with that bit
-/// set, of another protocol, with other bytes, or damaged.
+/// What is taken: mostly a piece as it was cut with the reserved bit clear, at times with options, and
+/// else one with that bit set, of another protocol, with other bytes, or damaged.
 pub fn packet(rng: &mut Rng, template: &Template, payload: &[u8], len: u16, odd: bool) -> Vec<u8> {
     let mut template = Template {
         evil: rng.once_in(16),
@@ -35,9 +35,12 @@ pub fn packet(rng: &mut Rng, template: &Template, payload: &[u8], len: u16, odd:
         template.protocol ^= 1 << rng.below(8);
     }
     let mut packet = piece(rng, &template, payload, len);
+    if rng.once_in(4) {
+        options::put(rng, &mut packet, odd);
+    }
     let last = packet.len() - 1;
     match rng.below(16) {
-        0 if odd && last >= 20 => packet[last] ^= 1,
+        0 if odd && last >= damage::header(&packet) => packet[last] ^= 1,
         1 | 2 if odd => packet = damage::damaged(rng, packet),
         3 => packet.extend([rng.u8(); 3]),
         _ => {}
@@ -70,6 +73,7 @@ pub fn takes(
 ) -> Compared {
     let got = ours.take(packet);
     run.same("wb_assembly_take", got, expected)?;
+    options::saw(run, "wb_assembly_take", packet, got.err());
     match got {
         Ok(Outcome::Waiting) => run.saw("taken: waiting"),
         Ok(Outcome::Complete) => run.saw("taken: complete"),

@@ -18,6 +18,9 @@ pub const KEY: Key = Key {
 /// The most bytes that an IPv4 packet has.
 pub const LONGEST: usize = 65_535;
 
+/// RFC 2113: the option router alert.
+pub const ROUTER_ALERT: [u8; 4] = [0x94, 0x04, 0x00, 0x00];
+
 /// What buffers hold before a call.
 pub const UNTOUCHED: u8 = 0xa5;
 
@@ -70,13 +73,32 @@ pub fn refused<T: std::fmt::Debug>(
     assert!(out.iter().all(|&b| b == UNTOUCHED));
 }
 
-/// The packet with some bytes changed and its IPv4 header's checksum set right.
+/// The packet with the checksum of its first so many bytes set right.
+fn mended(mut packet: Vec<u8>, header: usize) -> Vec<u8> {
+    packet[10..12].fill(0);
+    let sum = ip_csum(&packet[..header]).unwrap();
+    packet[10..12].copy_from_slice(&sum.to_be_bytes());
+    packet
+}
+
+/// The packet with some bytes changed and the checksum of its first 20 bytes set right, which are its
+/// IPv4 header where it has no options.
 pub fn changed(mut packet: Vec<u8>, changes: &[(usize, u8)]) -> Vec<u8> {
     for &(at, byte) in changes {
         packet[at] = byte;
     }
-    packet[10..12].fill(0);
-    let sum = ip_csum(&packet[..20]).unwrap();
-    packet[10..12].copy_from_slice(&sum.to_be_bytes());
-    packet
+    mended(packet, 20)
+}
+
+/// The packet with options behind its header of 20 bytes and both lengths set right; then some bytes
+/// changed, and the checksum of header and options set right.
+pub fn with_options(packet: &[u8], options: &[u8], changes: &[(usize, u8)]) -> Vec<u8> {
+    let mut longer = [&packet[..20], options, &packet[20..]].concat();
+    let total = u16_at(packet, 2) + options.len() as u16;
+    longer[0] += (options.len() / 4) as u8;
+    longer[2..4].copy_from_slice(&total.to_be_bytes());
+    for &(at, byte) in changes {
+        longer[at] = byte;
+    }
+    mended(longer, 20 + options.len())
 }

@@ -22,13 +22,13 @@ returns c =
     steps-as _ _ (take-eleven capacity mapBytes s (a .packet .now) u) (refused-steps s 11)
 
 sub-put : tie.Need-sub-put
-sub-put c = let e = sym (c .before .before .before .read .ensures) ∙ ap readSays (c .before .h .given .1) in omega (arith, read-framed _ _ (keyed-by _ _ _ e .read) .order)
+sub-put c = let e = sym (c .before .before .before .read .ensures) ∙ ap readSays (c .before .h .given .1) in let f = read-framed _ _ (keyed-by _ _ _ e .read) in omega arith
 
 part-put-start : tie.Need-part-put-start
-part-put-start c = let e = sym (c .before .before .before .read .ensures) ∙ ap readSays (c .before .h .given .1) in omega (arith, read-framed _ _ (keyed-by _ _ _ e .read) .order)
+part-put-start c = let e = sym (c .before .before .before .read .ensures) ∙ ap readSays (c .before .h .given .1) in let f = read-framed _ _ (keyed-by _ _ _ e .read) in omega arith
 
 part-put-end : tie.Need-part-put-end
-part-put-end c = let e = sym (c .before .before .before .read .ensures) ∙ ap readSays (c .before .h .given .1) in omega (arith, read-framed _ _ (keyed-by _ _ _ e .read) .all)
+part-put-end c = let e = sym (c .before .before .before .read .ensures) ∙ ap readSays (c .before .h .given .1) in let f = read-framed _ _ (keyed-by _ _ _ e .read) in omega arith
 
 returns-2 : tie.Need-returns-2
 returns-2 c =

@@ -19,13 +19,13 @@ returns c =
     tables-as _ _ _ _ _ _ _ _ (table-eleven (a .table) (a .payloads .now) (a .maps .now) (a .packet .now) u) (refused-tables 11 _ _ _ _ (c .refuse .ensures))
 
 sub-take-read : tie.Need-sub-take-read
-sub-take-read c = let e = sym (c .before .before .before .read .ensures) ∙ ap readSays (c .before .h .given .1) in omega (arith, read-framed _ _ e .order)
+sub-take-read c = let e = sym (c .before .before .before .read .ensures) ∙ ap readSays (c .before .h .given .1) in let f = read-framed _ _ e in omega arith
 
 part-take-read-start : tie.Need-part-take-read-start
-part-take-read-start c = let e = sym (c .before .before .before .read .ensures) ∙ ap readSays (c .before .h .given .1) in omega (arith, read-framed _ _ e .order)
+part-take-read-start c = let e = sym (c .before .before .before .read .ensures) ∙ ap readSays (c .before .h .given .1) in let f = read-framed _ _ e in omega arith
 
 part-take-read-end : tie.Need-part-take-read-end
-part-take-read-end c = let e = sym (c .before .before .before .read .ensures) ∙ ap readSays (c .before .h .given .1) in omega (arith, read-framed _ _ e .all)
+part-take-read-end c = let e = sym (c .before .before .before .read .ensures) ∙ ap readSays (c .before .h .given .1) in let f = read-framed _ _ e in omega arith
 
 take-read-requires : tie.Need-take-read-requires
 take-read-requires c κs = sym (c .before .before .before .before .before .before .before .before .is-usable .ensures) ∙ not-false _ (c .before .before .before .before .before .before .before .if1 .left)

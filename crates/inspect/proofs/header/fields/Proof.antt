@@ -7,11 +7,13 @@ use Rattle.inspect.proofs.header.fields.Tie as tie
 returns : tie.Need-returns
 unfolding headerOf
 returns c =
-    let at-7 = c .before .before in
+    let at-8 = c .before in
+    let at-7 = at-8 .before .before in
     let at-4 = at-7 .before .before .before in
     simp (
-      c .be322 .ensures,
-      c .before .be32 .ensures,
+      c .be84 .ensures,
+      at-8 .be322 .ensures,
+      at-8 .before .be32 .ensures,
       at-7 .be83 .ensures,
       at-7 .before .be82 .ensures,
       at-7 .before .before .be163 .ensures,
@@ -32,5 +34,8 @@ fields-spec =
     (λ c κs. search needs)
     (λ c κs. search needs)
     (λ c κs. search needs)
+    (λ c κs. search needs)
+    (λ c. search needs)
+    (λ c. search needs)
     (λ c. search needs)
     returns)

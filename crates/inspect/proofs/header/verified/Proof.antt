@@ -19,7 +19,8 @@ part-verify-end c =
     let at-frame = c .before .before .before in
     let l : List ℕ = at-frame .before .before .args .packet .now in
     let e = sym (at-frame .frame .ensures) ∙ ap readSays (c .before .h .given .1) in
-    omega (arith, framed l _ e .order, framed l _ e .all)
+    let f = framed l _ e in
+    omega arith
 
 verify-requires : tie.Need-verify-requires
 verify-requires c κs =

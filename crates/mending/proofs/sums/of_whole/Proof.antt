@@ -70,7 +70,8 @@ field-requires-2 c κs =
     let start = c .before .before .before .before .before .before .before in
     let l : List ℕ = start .args .packet .now in
     let h : IpRead = start .args .h in
-    omega (arith, sum-within l h _ (known-as l h (start .pre) (c .before .enum-told .given .1)))
+    let q = known-as l h (start .pre) (c .before .enum-told .given .1) in
+    omega (arith, sum-within l h _ q, framed l h (q .frame) .least)
 
 add-field-2 : tie.Need-add-field-2
 add-field-2 c =
@@ -92,7 +93,8 @@ field-requires-3 c κs =
     let start = c .before .before .before .before .before .before .before .before in
     let l : List ℕ = start .args .packet .now in
     let h : IpRead = start .args .h in
-    omega (arith, sum-within l h _ (known-as l h (start .pre) (c .before .before .enum-told2 .given .1)))
+    let q = known-as l h (start .pre) (c .before .before .enum-told2 .given .1) in
+    omega (arith, sum-within l h _ q, framed l h (q .frame) .least)
 
 add-field-3 : tie.Need-add-field-3
 add-field-3 c =
@@ -115,7 +117,8 @@ field-requires-4 c κs =
     let start = c .before .before .before .before .before .before .before in
     let l : List ℕ = start .args .packet .now in
     let h : IpRead = start .args .h in
-    omega (arith, sum-within l h _ (known-as l h (start .pre) (c .before .enum-told4 .given .1)))
+    let q = known-as l h (start .pre) (c .before .enum-told4 .given .1) in
+    omega (arith, sum-within l h _ q, framed l h (q .frame) .least)
 
 returns : tie.Need-returns
 unfolding partFields
