@@ -14,6 +14,7 @@ static const uint8_t none[1], lap[4] = {'l', 'a', 'p', '!'}, twenty[] = "twenty 
 static const wb_addr cl = {.ip = 0x0a000001, .port = 40000}, sv = {.ip = 0x0a000002, .port = 80};
 static const wb_template template_ = {
     .tos = 3, .id = 7, .df = true, .ttl = 64, .protocol = WB_PROTOCOL_UDP, .saddr = 0x0a000001, .daddr = 0x0a000002};
+static const wb_marks usual = {.tos = WB_TOS, .ttl = WB_TTL}, other = {.tos = 0xb8, .ttl = 1};
 static uint8_t out[200], many[65536], payload[WB_PAYLOAD_BYTES], map[WB_MAP_BYTES];
 static size_t ends[PLACES];
 
@@ -107,9 +108,15 @@ static void checked(wb_checked r)
     printf("%s\n", r.no_checksum ? ", without checksum" : "");
 }
 
+static void marks(wb_marks m)
+{
+    printf(", tos %u, ttl %u\n", m.tos, m.ttl);
+}
+
 static void tcp_flow(wb_tcp_flow f)
 {
-    printf("  %08x:%u at %u, %08x:%u at %u\n", f.cl.ip, f.cl.port, f.cl_seq, f.sv.ip, f.sv.port, f.sv_seq);
+    printf("  %08x:%u at %u, %08x:%u at %u", f.cl.ip, f.cl.port, f.cl_seq, f.sv.ip, f.sv.port, f.sv_seq);
+    marks(f.marks);
 }
 
 static void tcp_sent(wb_tcp_sent r)
@@ -135,12 +142,14 @@ static void tcp_pushed(wb_pushed r)
 
 static void udp_flow(wb_udp_flow f)
 {
-    printf("  %08x:%u, %08x:%u\n", f.cl.ip, f.cl.port, f.sv.ip, f.sv.port);
+    printf("  %08x:%u, %08x:%u", f.cl.ip, f.cl.port, f.sv.ip, f.sv.port);
+    marks(f.marks);
 }
 
 static void icmp_flow(wb_icmp_flow f)
 {
-    printf("  %08x, %08x, ping %u, pong %u\n", f.cl, f.sv, f.ping_seq, f.pong_seq);
+    printf("  %08x, %08x, ping %u, pong %u", f.cl, f.sv, f.ping_seq, f.pong_seq);
+    marks(f.marks);
 }
 
 static void icmp_sent(wb_icmp_sent r)
@@ -209,7 +218,8 @@ static void sums(void)
 static void building(void)
 {
     static const uint8_t ebd4[2] = {0xeb, 0xd4};
-    wb_tcp_segment syn = {.saddr = cl.ip, .daddr = sv.ip, .sport = 40000, .dport = 80, .seq = 1000, .flags = WB_SYN};
+    wb_tcp_segment syn = {
+        .saddr = cl.ip, .daddr = sv.ip, .sport = 40000, .dport = 80, .seq = 1000, .flags = WB_SYN, .marks = usual};
     MAKE(length, wb_build_tcp(syn, none, 0, out, 39));
     MAKE(length, wb_build_tcp(syn, none, 0, out, 40));
     wb_tcp_segment segment = syn;
@@ -217,14 +227,14 @@ static void building(void)
     segment.flags = WB_PSH | WB_ACK;
     segment.frag_off = WB_DF | 1;
     MAKE(length, wb_build_tcp(segment, lap, 4, out, sizeof out));
-    wb_udp_datagram udp = {.saddr = cl.ip, .daddr = sv.ip, .sport = 1, .dport = 2, .csum = true};
+    wb_udp_datagram udp = {.saddr = cl.ip, .daddr = sv.ip, .sport = 1, .dport = 2, .csum = true, .marks = usual};
     MAKE(length, wb_build_udp(udp, ebd4, 2, out, sizeof out));
     udp.frag_off = WB_EVIL | 2;
     MAKE(length, wb_build_udp(udp, ebd4, 2, out, sizeof out));
     wb_udp_datagram bare = udp;
     bare.csum = false;
     MAKE(length, wb_build_udp(bare, ebd4, 2, out, sizeof out));
-    wb_icmp_packet echo = {.saddr = cl.ip, .daddr = sv.ip, .seq = 0x0100};
+    wb_icmp_packet echo = {.saddr = cl.ip, .daddr = sv.ip, .seq = 0x0100, .marks = usual};
     MAKE(length, wb_build_icmp(echo, lap, 4, out, sizeof out));
     echo.reply = true;
     MAKE(length, wb_build_icmp(echo, lap, 4, out, sizeof out));
@@ -234,7 +244,7 @@ static void building(void)
  * such. */
 static void bounds(void)
 {
-    wb_tcp_segment tcp = {.flags = WB_FIN | WB_RST | WB_URG | WB_ECE | WB_CWR, .frag_off = WB_MF};
+    wb_tcp_segment tcp = {.flags = WB_FIN | WB_RST | WB_URG | WB_ECE | WB_CWR, .frag_off = WB_MF, .marks = usual};
     wb_udp_datagram udp = {.csum = true}, bare = {.csum = false};
     wb_icmp_packet echo = {.reply = false};
     MAKE(length, wb_build_tcp(tcp, none, 0, out, sizeof out));
@@ -344,6 +354,38 @@ static void icmp(void)
     MAKE(icmp_sent, wb_icmp_echo_reply(f, lap, 4, out, 32));
 }
 
+/* Every packet of a flow has the flow's marks, and no other call changes them. */
+static void marked_flows(void)
+{
+    wb_tcp_flow tcp = wb_tcp_marked(wb_tcp_new(cl, sv, 1000, 5000), other);
+    wb_udp_flow udp = wb_udp_marked(wb_udp_new(cl, sv), other);
+    wb_icmp_flow icmp = wb_icmp_marked(wb_icmp_new(cl.ip, sv.ip), other);
+    wb_choices choices = {.csum = true};
+    wb_seq set = {.is_set = true, .number = 77};
+    MAKE(tcp_flow, wb_tcp_marked(tcp, usual));
+    MAKE(tcp_sent, wb_tcp_open(tcp, out, 119));
+    MAKE(tcp_sent, wb_tcp_open(tcp, out, 120));
+    MAKE(tcp_header, wb_tcp_client_hdr(tcp, 9, 0x1234));
+    MAKE(tcp_pushed, wb_tcp_push_state(tcp, set, set));
+    MAKE(tcp_flow, wb_tcp_pop_state(tcp, set, set));
+    MAKE(udp_flow, wb_udp_marked(udp, usual));
+    MAKE(length, wb_udp_server_dgram(udp, lap, 4, choices, out, sizeof out));
+    MAKE(icmp_flow, wb_icmp_marked(icmp, usual));
+    MAKE(icmp_sent, wb_icmp_echo(icmp, lap, 4, out, 32));
+}
+
+/* A request has its own. Where they are left out, they are 0. */
+static void marked_requests(void)
+{
+    wb_tcp_segment segment = {.saddr = cl.ip, .daddr = sv.ip, .flags = WB_ACK, .marks = other};
+    wb_udp_datagram datagram = {.saddr = cl.ip, .daddr = sv.ip, .csum = true, .marks = other};
+    wb_icmp_packet echo = {.saddr = cl.ip, .daddr = sv.ip, .marks = other}, left_out = {.saddr = cl.ip, .daddr = sv.ip};
+    MAKE(length, wb_build_tcp(segment, lap, 4, out, sizeof out));
+    MAKE(length, wb_build_udp(datagram, lap, 4, out, sizeof out));
+    MAKE(length, wb_build_icmp(echo, lap, 4, out, sizeof out));
+    MAKE(length, wb_build_icmp(left_out, lap, 4, out, sizeof out));
+}
+
 /* sets the checksum of a header right */
 static void mend(uint8_t *header, size_t count)
 {
@@ -357,7 +399,7 @@ static void mend(uint8_t *header, size_t count)
 static const uint8_t *with(size_t at, uint8_t high, uint8_t low)
 {
     static uint8_t packet[32];
-    wb_udp_datagram d = {.saddr = cl.ip, .daddr = sv.ip, .sport = 1, .dport = 2, .csum = true};
+    wb_udp_datagram d = {.saddr = cl.ip, .daddr = sv.ip, .sport = 1, .dport = 2, .csum = true, .marks = usual};
     wb_build_udp(d, lap, 4, packet, sizeof packet);
     packet[at] = high;
     packet[at + 1] = low;
@@ -466,6 +508,8 @@ int main(void)
     tcp_numbers();
     udp();
     icmp();
+    marked_flows();
+    marked_requests();
     checks();
     writing();
     assembling();

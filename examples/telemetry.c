@@ -28,7 +28,8 @@ static void accept(const char *what, uint8_t status)
 static void build(void)
 {
     for (int i = 0; i < DATA; i++) data[i] = (uint8_t)(i * 7 + i / 256);
-    wb_udp_datagram d = {.saddr = car.saddr, .daddr = car.daddr, .sport = 20777, .dport = 20777, .csum = true};
+    wb_udp_datagram d = {
+        .saddr = car.saddr, .daddr = car.daddr, .sport = 20777, .dport = 20777, .csum = true, .marks = {.ttl = WB_TTL}};
     wb_length built = wb_build_udp(d, data, sizeof data, packet, sizeof packet);
     accept("build", built.status);
     printf("built: %zu bytes\n", built.length);

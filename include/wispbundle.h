@@ -38,7 +38,7 @@ extern "C" {
 
 /* ---- the version: another number after each change of a struct or a call, also where every size stays. The header is
  * the archive's exactly if wb_version answers WB_VERSION. */
-#define WB_VERSION 7
+#define WB_VERSION 8
 
 uint32_t wb_version(void);
 
@@ -120,6 +120,16 @@ enum { WB_EVIL = 0x8000, WB_DF = 0x4000, WB_MF = 0x2000 };
 
 enum { WB_PROTOCOL_ICMP = 1, WB_PROTOCOL_TCP = 6, WB_PROTOCOL_UDP = 17 };
 
+/* The TOS and the TTL of the IPv4 header, any numbers: a TTL of 0 is built, too. The packet of a request has the
+ * request's, so who leaves them out there asks for a TTL of 0; every packet of a flow has the flow's. */
+typedef struct {
+    uint8_t tos;
+    uint8_t ttl;
+} wb_marks;
+
+/* The marks of a new flow. */
+enum { WB_TOS = 0, WB_TTL = 64 };
+
 /* Any flags, and any frag_off. */
 typedef struct {
     uint32_t saddr;
@@ -130,6 +140,7 @@ typedef struct {
     uint32_t ack;
     uint8_t flags;
     uint16_t frag_off;
+    wb_marks marks;
 } wb_tcp_segment;
 
 /* Any frag_off. csum: whether a checksum is asked for. It must be: without one no datagram is built (22). */
@@ -140,6 +151,7 @@ typedef struct {
     uint16_t dport;
     uint16_t frag_off;
     bool csum;
+    wb_marks marks;
 } wb_udp_datagram;
 
 /* reply: type 0 and not 8. The id is 0x1234. */
@@ -148,6 +160,7 @@ typedef struct {
     uint32_t daddr;
     bool reply;
     uint16_t seq;
+    wb_marks marks;
 } wb_icmp_packet;
 
 /* What every piece of one payload says in its header. evil is the reserved bit; protocol is any number. */
@@ -215,9 +228,10 @@ wb_listed wb_fragments(wb_template template_, const uint8_t *payload, size_t pay
                        size_t list_len, uint8_t *out, size_t out_len, size_t *ends, size_t ends_len);
 
 /* ---- TCP flows
- * A flow has two ends and the next sequence number of each; numbers wrap at 2^32. A call that sends writes its packets
- * end to end to the start of out, or none of them, and answers where each ends (0: there is no such packet). A call
- * without payload bytes refuses by 3, and one with them by 1, 3. */
+ * A flow has two ends, the next sequence number of each, which wraps at 2^32, and the marks of its packets, which only
+ * wb_tcp_marked changes. A call that sends writes its packets end to end to the start of out, or none of them, and
+ * answers where each ends (0: there is no such packet). A call without payload bytes refuses by 3, and one with them by
+ * 1, 3. */
 
 typedef struct {
     uint32_t ip;
@@ -229,6 +243,7 @@ typedef struct {
     wb_addr sv;
     uint32_t cl_seq;
     uint32_t sv_seq;
+    wb_marks marks;
 } wb_tcp_flow;
 
 typedef struct {
@@ -239,7 +254,10 @@ typedef struct {
     size_t third;
 } wb_tcp_sent;
 
+/* With the marks WB_TOS and WB_TTL. */
 wb_tcp_flow wb_tcp_new(wb_addr cl, wb_addr sv, uint32_t cl_seq, uint32_t sv_seq);
+/* The flow with other marks on every packet from now on. Never refused. */
+wb_tcp_flow wb_tcp_marked(wb_tcp_flow flow, wb_marks marks);
 
 /* Three packets, 120 bytes: SYN, SYN and ACK, ACK. */
 wb_tcp_sent wb_tcp_open(wb_tcp_flow flow, uint8_t *out, size_t out_len);
@@ -290,16 +308,18 @@ typedef struct {
     wb_seq sv;
 } wb_pushed;
 
-/* Sets the numbers that are given. Never refused. */
+/* Sets the numbers that are given, and leaves the marks as they are. Never refused. */
 wb_pushed wb_tcp_push_state(wb_tcp_flow flow, wb_seq cl_seq, wb_seq sv_seq);
 wb_tcp_flow wb_tcp_pop_state(wb_tcp_flow flow, wb_seq cl_seq, wb_seq sv_seq);
 
 /* ---- UDP flows
- * Each call writes one datagram to the start of out. It refuses by 22, 1, 3. */
+ * A flow has two ends and the marks of its packets. Each call for a datagram writes one to the start of out. It refuses
+ * by 22, 1, 3. */
 
 typedef struct {
     wb_addr cl;
     wb_addr sv;
+    wb_marks marks;
 } wb_udp_flow;
 
 /* The source address is srcip where other_source is true, and else the flow's. frag_off and csum are as in
@@ -311,21 +331,25 @@ typedef struct {
     bool csum;
 } wb_choices;
 
+/* With the marks WB_TOS and WB_TTL. */
 wb_udp_flow wb_udp_new(wb_addr cl, wb_addr sv);
+/* The flow with other marks on every packet from now on. Never refused. */
+wb_udp_flow wb_udp_marked(wb_udp_flow flow, wb_marks marks);
 wb_length wb_udp_client_dgram(wb_udp_flow flow, const uint8_t *bytes, size_t bytes_len, wb_choices given, uint8_t *out,
                               size_t out_len);
 wb_length wb_udp_server_dgram(wb_udp_flow flow, const uint8_t *bytes, size_t bytes_len, wb_choices given, uint8_t *out,
                               size_t out_len);
 
 /* ---- ICMP flows
- * The numbers of echoes and of replies start at 0, count apart and wrap at 65,536. Each call writes one packet to the
- * start of out. It refuses by 1, 3. */
+ * The numbers of echoes and of replies start at 0, count apart and wrap at 65,536. The marks are those of every packet.
+ * Each call for a packet writes one to the start of out. It refuses by 1, 3. */
 
 typedef struct {
     uint32_t cl;
     uint32_t sv;
     uint16_t ping_seq;
     uint16_t pong_seq;
+    wb_marks marks;
 } wb_icmp_flow;
 
 typedef struct {
@@ -334,7 +358,10 @@ typedef struct {
     size_t length;
 } wb_icmp_sent;
 
+/* With the marks WB_TOS and WB_TTL. */
 wb_icmp_flow wb_icmp_new(uint32_t cl, uint32_t sv);
+/* The flow with other marks on every packet from now on. Never refused. */
+wb_icmp_flow wb_icmp_marked(wb_icmp_flow flow, wb_marks marks);
 wb_icmp_sent wb_icmp_echo(wb_icmp_flow flow, const uint8_t *bytes, size_t bytes_len, uint8_t *out, size_t out_len);
 wb_icmp_sent wb_icmp_echo_reply(wb_icmp_flow flow, const uint8_t *bytes, size_t bytes_len, uint8_t *out,
                                 size_t out_len);
@@ -459,7 +486,11 @@ WB_SIZE(wb_sum, 4);
 WB_AT(wb_sum, status, 0);
 WB_AT(wb_sum, sum, 2);
 
-WB_SIZE(wb_tcp_segment, 24);
+WB_SIZE(wb_marks, 2);
+WB_AT(wb_marks, tos, 0);
+WB_AT(wb_marks, ttl, 1);
+
+WB_SIZE(wb_tcp_segment, 28);
 WB_AT(wb_tcp_segment, saddr, 0);
 WB_AT(wb_tcp_segment, daddr, 4);
 WB_AT(wb_tcp_segment, sport, 8);
@@ -468,20 +499,23 @@ WB_AT(wb_tcp_segment, seq, 12);
 WB_AT(wb_tcp_segment, ack, 16);
 WB_AT(wb_tcp_segment, flags, 20);
 WB_AT(wb_tcp_segment, frag_off, 22);
+WB_AT(wb_tcp_segment, marks, 24);
 
-WB_SIZE(wb_udp_datagram, 16);
+WB_SIZE(wb_udp_datagram, 20);
 WB_AT(wb_udp_datagram, saddr, 0);
 WB_AT(wb_udp_datagram, daddr, 4);
 WB_AT(wb_udp_datagram, sport, 8);
 WB_AT(wb_udp_datagram, dport, 10);
 WB_AT(wb_udp_datagram, frag_off, 12);
 WB_AT(wb_udp_datagram, csum, 14);
+WB_AT(wb_udp_datagram, marks, 15);
 
-WB_SIZE(wb_icmp_packet, 12);
+WB_SIZE(wb_icmp_packet, 16);
 WB_AT(wb_icmp_packet, saddr, 0);
 WB_AT(wb_icmp_packet, daddr, 4);
 WB_AT(wb_icmp_packet, reply, 8);
 WB_AT(wb_icmp_packet, seq, 10);
+WB_AT(wb_icmp_packet, marks, 12);
 
 WB_SIZE(wb_template, 16);
 WB_AT(wb_template, tos, 0);
@@ -511,11 +545,12 @@ WB_SIZE(wb_addr, 8);
 WB_AT(wb_addr, ip, 0);
 WB_AT(wb_addr, port, 4);
 
-WB_SIZE(wb_tcp_flow, 24);
+WB_SIZE(wb_tcp_flow, 28);
 WB_AT(wb_tcp_flow, cl, 0);
 WB_AT(wb_tcp_flow, sv, 8);
 WB_AT(wb_tcp_flow, cl_seq, 16);
 WB_AT(wb_tcp_flow, sv_seq, 20);
+WB_AT(wb_tcp_flow, marks, 24);
 
 WB_SIZE(wb_tcp_sent, 56);
 WB_AT(wb_tcp_sent, status, 0);
@@ -524,22 +559,23 @@ WB_AT(wb_tcp_sent, first, 32);
 WB_AT(wb_tcp_sent, second, 40);
 WB_AT(wb_tcp_sent, third, 48);
 
-WB_SIZE(wb_tcp_header, 44);
+WB_SIZE(wb_tcp_header, 48);
 WB_AT(wb_tcp_header, flow, 0);
-WB_AT(wb_tcp_header, bytes, 24);
+WB_AT(wb_tcp_header, bytes, 28);
 
 WB_SIZE(wb_seq, 8);
 WB_AT(wb_seq, is_set, 0);
 WB_AT(wb_seq, number, 4);
 
-WB_SIZE(wb_pushed, 40);
+WB_SIZE(wb_pushed, 44);
 WB_AT(wb_pushed, flow, 0);
-WB_AT(wb_pushed, cl, 24);
-WB_AT(wb_pushed, sv, 32);
+WB_AT(wb_pushed, cl, 28);
+WB_AT(wb_pushed, sv, 36);
 
-WB_SIZE(wb_udp_flow, 16);
+WB_SIZE(wb_udp_flow, 20);
 WB_AT(wb_udp_flow, cl, 0);
 WB_AT(wb_udp_flow, sv, 8);
+WB_AT(wb_udp_flow, marks, 16);
 
 WB_SIZE(wb_choices, 12);
 WB_AT(wb_choices, other_source, 0);
@@ -547,16 +583,17 @@ WB_AT(wb_choices, srcip, 4);
 WB_AT(wb_choices, frag_off, 8);
 WB_AT(wb_choices, csum, 10);
 
-WB_SIZE(wb_icmp_flow, 12);
+WB_SIZE(wb_icmp_flow, 16);
 WB_AT(wb_icmp_flow, cl, 0);
 WB_AT(wb_icmp_flow, sv, 4);
 WB_AT(wb_icmp_flow, ping_seq, 8);
 WB_AT(wb_icmp_flow, pong_seq, 10);
+WB_AT(wb_icmp_flow, marks, 12);
 
-WB_SIZE(wb_icmp_sent, 24);
+WB_SIZE(wb_icmp_sent, 32);
 WB_AT(wb_icmp_sent, status, 0);
 WB_AT(wb_icmp_sent, flow, 4);
-WB_AT(wb_icmp_sent, length, 16);
+WB_AT(wb_icmp_sent, length, 24);
 
 WB_SIZE(wb_checked, 2);
 WB_AT(wb_checked, status, 0);

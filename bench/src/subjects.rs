@@ -8,7 +8,7 @@ use std::cell::RefCell;
 use std::hint::black_box;
 use std::net::SocketAddrV4;
 use std::rc::Rc;
-use wispbundle::sys;
+use wispbundle::{Marks, sys};
 
 /// What is measured side by side.
 pub struct Subject {
@@ -63,6 +63,7 @@ fn udp() -> sys::UdpDatagram {
         dport: SV.port(),
         frag_off: 0,
         csum: true,
+        marks: Marks::default(),
     }
 }
 

@@ -2,7 +2,7 @@
 //! and answers its length. It refuses by 1, 3, and a UDP datagram by 22, 1, 3.
 
 use crate::lend::lend;
-use crate::{Refusal, sys};
+use crate::{Marks, Refusal, sys};
 use std::net::{Ipv4Addr, SocketAddrV4};
 
 /// The bits of [`TcpSegment::flags`].
@@ -26,10 +26,11 @@ pub struct TcpSegment {
     pub ack: u32,
     pub flags: u8,
     pub frag_off: u16,
+    pub marks: Marks,
 }
 
 impl TcpSegment {
-    /// A segment with neither flags nor numbers.
+    /// A segment with neither flags nor numbers, and with the default marks.
     pub fn new(src: SocketAddrV4, dst: SocketAddrV4) -> Self {
         Self {
             src,
@@ -38,6 +39,7 @@ impl TcpSegment {
             ack: 0,
             flags: 0,
             frag_off: 0,
+            marks: Marks::default(),
         }
     }
 
@@ -60,6 +62,7 @@ impl TcpSegment {
             ack: self.ack,
             flags: self.flags,
             frag_off: self.frag_off,
+            marks: self.marks,
         };
         Refusal::or_length(lend!(wb_build_tcp, segment, payload, out))
     }
@@ -73,16 +76,19 @@ pub struct UdpDatagram {
     pub dst: SocketAddrV4,
     pub frag_off: u16,
     pub csum: bool,
+    pub marks: Marks,
 }
 
 impl UdpDatagram {
-    /// A datagram for which no checksum is asked yet: until `csum` is set, it is refused.
+    /// A datagram with the default marks, for which no checksum is asked yet: until `csum` is set, it is
+    /// refused.
     pub fn new(src: SocketAddrV4, dst: SocketAddrV4) -> Self {
         Self {
             src,
             dst,
             frag_off: 0,
             csum: false,
+            marks: Marks::default(),
         }
     }
 
@@ -105,6 +111,7 @@ impl UdpDatagram {
             dport: self.dst.port(),
             frag_off: self.frag_off,
             csum: self.csum,
+            marks: self.marks,
         };
         Refusal::or_length(lend!(wb_build_udp, datagram, payload, out))
     }
@@ -126,6 +133,7 @@ pub struct IcmpPacket {
     pub dst: Ipv4Addr,
     pub echo: Echo,
     pub seq: u16,
+    pub marks: Marks,
 }
 
 impl IcmpPacket {
@@ -135,6 +143,7 @@ impl IcmpPacket {
             daddr: u32::from(self.dst),
             reply: self.echo == Echo::Reply,
             seq: self.seq,
+            marks: self.marks,
         };
         Refusal::or_length(lend!(wb_build_icmp, echo, payload, out))
     }

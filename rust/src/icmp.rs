@@ -1,12 +1,12 @@
 //! ICMP flows.
 
 use crate::lend::lend;
-use crate::{Refusal, sys};
+use crate::{Marks, Refusal, sys};
 use std::net::Ipv4Addr;
 
-/// Two ends, and the next number of an echo and of a reply. The numbers start at 0, count apart and
-/// wrap at 65,536. Each call writes one packet to the start of `out` and answers its length. It
-/// refuses by 1, 3, and the flow is then as before.
+/// Two ends, the next number of an echo and of a reply, and what every packet is marked with. The
+/// numbers start at 0, count apart and wrap at 65,536. Each call for a packet writes one to the start
+/// of `out` and answers its length. It refuses by 1, 3, and the flow is then as before.
 ///
 /// ```
 /// let mut flow = wispbundle::IcmpFlow::new([10, 0, 0, 1].into(), [10, 0, 0, 2].into());
@@ -21,12 +21,20 @@ pub struct IcmpFlow {
     pub sv: Ipv4Addr,
     pub ping_seq: u16,
     pub pong_seq: u16,
+    pub marks: Marks,
 }
 
 impl IcmpFlow {
+    /// A flow with the default marks.
     pub fn new(cl: Ipv4Addr, sv: Ipv4Addr) -> Self {
         // SAFETY: no pointer goes in.
         Self::of(unsafe { sys::wb_icmp_new(u32::from(cl), u32::from(sv)) })
+    }
+
+    /// The flow with other marks on every packet from now on.
+    pub fn marked(self, marks: Marks) -> Self {
+        // SAFETY: no pointer goes in.
+        Self::of(unsafe { sys::wb_icmp_marked(self.raw(), marks) })
     }
 
     fn of(flow: sys::IcmpFlow) -> Self {
@@ -35,6 +43,7 @@ impl IcmpFlow {
             sv: Ipv4Addr::from(flow.sv),
             ping_seq: flow.ping_seq,
             pong_seq: flow.pong_seq,
+            marks: flow.marks,
         }
     }
 
@@ -44,6 +53,7 @@ impl IcmpFlow {
             sv: u32::from(self.sv),
             ping_seq: self.ping_seq,
             pong_seq: self.pong_seq,
+            marks: self.marks,
         }
     }
 

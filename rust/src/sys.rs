@@ -20,7 +20,7 @@ mod aarch64;
 compile_error!("libwispbundle.a is for x86-64; beside it only aarch64 is known, for tests");
 
 /// The header's `WB_VERSION`: the number of the archive whose structs and calls these are.
-pub const VERSION: u32 = 7;
+pub const VERSION: u32 = 8;
 
 macro_rules! functions {
     ($($form:ident $($name:ident),+: fn $args:tt -> $answer:ident;)+) => {
@@ -38,11 +38,12 @@ functions! {
     small wb_ip_csum: fn(buf: *const u8, buf_len: usize) -> Sum;
 
     argument wb_build_tcp: fn(
-        segment: TcpSegment [a b c],
+        segment: TcpSegment [a b c d],
         payload: *const u8, payload_len: usize, out: *mut u8, out_len: usize; r4 r5 r6 r7
     ) -> Length;
-    small wb_build_udp: fn(
-        datagram: UdpDatagram, payload: *const u8, payload_len: usize, out: *mut u8, out_len: usize
+    argument wb_build_udp: fn(
+        datagram: UdpDatagram [a b c],
+        payload: *const u8, payload_len: usize, out: *mut u8, out_len: usize; r4 r5 r6 r7
     ) -> Length;
     small wb_build_icmp: fn(
         echo: IcmpPacket, payload: *const u8, payload_len: usize, out: *mut u8, out_len: usize
@@ -70,39 +71,46 @@ functions! {
     ) -> Listed;
 
     answer wb_tcp_new: fn(cl: Addr, sv: Addr, cl_seq: u32, sv_seq: u32) -> TcpFlow;
+    both wb_tcp_marked: fn(
+        flow: TcpFlow [a b c d], marks: Marks; r2 r3 r4 r5 r6 r7
+    ) -> TcpFlow;
     both wb_tcp_open, wb_tcp_client_close, wb_tcp_server_close, wb_tcp_client_reset, wb_tcp_server_reset,
         wb_tcp_client_ack, wb_tcp_server_ack: fn(
-        flow: TcpFlow [a b c], out: *mut u8, out_len: usize; r3 r4 r5 r6 r7
+        flow: TcpFlow [a b c d], out: *mut u8, out_len: usize; r3 r4 r5 r6 r7
     ) -> TcpSent;
     both wb_tcp_client_data_segment, wb_tcp_server_data_segment: fn(
-        flow: TcpFlow [a b c],
+        flow: TcpFlow [a b c d],
         bytes: *const u8, bytes_len: usize, out: *mut u8, out_len: usize; r5 r6 r7
     ) -> TcpSent;
     both wb_tcp_client_message, wb_tcp_server_message: fn(
-        flow: TcpFlow [a b c],
+        flow: TcpFlow [a b c d],
         bytes: *const u8, bytes_len: usize, send_ack: bool, frag_off: u16,
         out: *mut u8, out_len: usize; r7
     ) -> TcpSent;
     both wb_tcp_client_hole, wb_tcp_server_hole: fn(
-        flow: TcpFlow [a b c], bytes: u32; r2 r3 r4 r5 r6 r7
+        flow: TcpFlow [a b c d], bytes: u32; r2 r3 r4 r5 r6 r7
     ) -> TcpFlow;
     both wb_tcp_client_hdr, wb_tcp_server_hdr: fn(
-        flow: TcpFlow [a b c], dlen: u32, csum: u16; r3 r4 r5 r6 r7
+        flow: TcpFlow [a b c d], dlen: u32, csum: u16; r3 r4 r5 r6 r7
     ) -> TcpHeader;
     both wb_tcp_push_state: fn(
-        flow: TcpFlow [a b c], cl_seq: Seq, sv_seq: Seq; r3 r4 r5 r6 r7
+        flow: TcpFlow [a b c d], cl_seq: Seq, sv_seq: Seq; r3 r4 r5 r6 r7
     ) -> Pushed;
     both wb_tcp_pop_state: fn(
-        flow: TcpFlow [a b c], cl_seq: Seq, sv_seq: Seq; r3 r4 r5 r6 r7
+        flow: TcpFlow [a b c d], cl_seq: Seq, sv_seq: Seq; r3 r4 r5 r6 r7
     ) -> TcpFlow;
 
-    small wb_udp_new: fn(cl: Addr, sv: Addr) -> UdpFlow;
-    small wb_udp_client_dgram, wb_udp_server_dgram: fn(
-        flow: UdpFlow, bytes: *const u8, bytes_len: usize, given: Choices,
-        out: *mut u8, out_len: usize
+    answer wb_udp_new: fn(cl: Addr, sv: Addr) -> UdpFlow;
+    both wb_udp_marked: fn(
+        flow: UdpFlow [a b c], marks: Marks; r2 r3 r4 r5 r6 r7
+    ) -> UdpFlow;
+    argument wb_udp_client_dgram, wb_udp_server_dgram: fn(
+        flow: UdpFlow [a b c],
+        bytes: *const u8, bytes_len: usize, given: Choices, out: *mut u8, out_len: usize; r6 r7
     ) -> Length;
 
     small wb_icmp_new: fn(cl: u32, sv: u32) -> IcmpFlow;
+    small wb_icmp_marked: fn(flow: IcmpFlow, marks: Marks) -> IcmpFlow;
     answer wb_icmp_echo, wb_icmp_echo_reply: fn(
         flow: IcmpFlow, bytes: *const u8, bytes_len: usize, out: *mut u8, out_len: usize
     ) -> IcmpSent;

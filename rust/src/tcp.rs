@@ -2,13 +2,14 @@
 
 use crate::address::{Side, raw, socket};
 use crate::lend::{lend, lend_out};
-use crate::{Refusal, sys};
+use crate::{Marks, Refusal, sys};
 use std::net::SocketAddrV4;
 
 /// A sequence number for the client's side and one for the server's, or none.
 pub type Sides = (Option<u32>, Option<u32>);
 
-/// Two ends, and the next sequence number of each; numbers wrap at 2^32.
+/// Two ends, the next sequence number of each, which wraps at 2^32, and what every packet is marked
+/// with.
 ///
 /// A call that sends writes its packets end to end to the start of `out`, or none of them, and
 /// answers where each ends. It refuses by 1, 3, and the flow is then as before.
@@ -29,6 +30,7 @@ pub struct TcpFlow {
     pub sv: SocketAddrV4,
     pub cl_seq: u32,
     pub sv_seq: u32,
+    pub marks: Marks,
 }
 
 /// Where the packets of a message end.
@@ -51,9 +53,16 @@ fn number(seq: sys::Seq) -> Option<u32> {
 }
 
 impl TcpFlow {
+    /// A flow with the default marks.
     pub fn new(cl: SocketAddrV4, sv: SocketAddrV4, cl_seq: u32, sv_seq: u32) -> Self {
         // SAFETY: no pointer goes in.
         Self::of(unsafe { sys::wb_tcp_new(raw(cl), raw(sv), cl_seq, sv_seq) })
+    }
+
+    /// The flow with other marks on every packet from now on.
+    pub fn marked(self, marks: Marks) -> Self {
+        // SAFETY: no pointer goes in.
+        Self::of(unsafe { sys::wb_tcp_marked(self.raw(), marks) })
     }
 
     fn of(flow: sys::TcpFlow) -> Self {
@@ -62,6 +71,7 @@ impl TcpFlow {
             sv: socket(flow.sv),
             cl_seq: flow.cl_seq,
             sv_seq: flow.sv_seq,
+            marks: flow.marks,
         }
     }
 
@@ -71,6 +81,7 @@ impl TcpFlow {
             sv: raw(self.sv),
             cl_seq: self.cl_seq,
             sv_seq: self.sv_seq,
+            marks: self.marks,
         }
     }
 
@@ -204,7 +215,8 @@ impl TcpFlow {
         answer.bytes
     }
 
-    /// Sets the numbers that are given, and answers the old number of each side that was set.
+    /// Sets the numbers that are given, and answers the old number of each side that was set. The marks
+    /// stay, here and in [`pop_state`](Self::pop_state).
     ///
     /// ```
     /// # let (cl, sv) = ("10.0.0.1:40000".parse().unwrap(), "10.0.0.2:80".parse().unwrap());

@@ -1,11 +1,11 @@
 //! UDP flows.
 
 use crate::address::{Side, raw, socket};
-use crate::{Refusal, sys};
+use crate::{Marks, Refusal, sys};
 use std::net::{Ipv4Addr, SocketAddrV4};
 
-/// Two ends. Each call writes one datagram to the start of `out` and answers its length. It refuses
-/// by 22, 1, 3.
+/// Two ends, and what every packet is marked with. Each call for a datagram writes one to the start of
+/// `out` and answers its length. It refuses by 22, 1, 3.
 ///
 /// ```
 /// use wispbundle::{Choices, UdpFlow};
@@ -20,6 +20,7 @@ use std::net::{Ipv4Addr, SocketAddrV4};
 pub struct UdpFlow {
     pub cl: SocketAddrV4,
     pub sv: SocketAddrV4,
+    pub marks: Marks,
 }
 
 /// What goes with a datagram: another source address than the flow's, the whole 16-bit field of the
@@ -43,12 +44,23 @@ impl Choices {
 }
 
 impl UdpFlow {
+    /// A flow with the default marks.
     pub fn new(cl: SocketAddrV4, sv: SocketAddrV4) -> Self {
         // SAFETY: no pointer goes in.
-        let flow = unsafe { sys::wb_udp_new(raw(cl), raw(sv)) };
+        Self::of(unsafe { sys::wb_udp_new(raw(cl), raw(sv)) })
+    }
+
+    /// The flow with other marks on every packet from now on.
+    pub fn marked(self, marks: Marks) -> Self {
+        // SAFETY: no pointer goes in.
+        Self::of(unsafe { sys::wb_udp_marked(self.raw(), marks) })
+    }
+
+    fn of(flow: sys::UdpFlow) -> Self {
         Self {
             cl: socket(flow.cl),
             sv: socket(flow.sv),
+            marks: flow.marks,
         }
     }
 
@@ -56,6 +68,7 @@ impl UdpFlow {
         sys::UdpFlow {
             cl: raw(self.cl),
             sv: raw(self.sv),
+            marks: self.marks,
         }
     }
 

@@ -3,8 +3,8 @@
 mod common;
 use common::*;
 use wispbundle::{
-    Assembly, Echo, Good, IcmpPacket, Key, MAP_BYTES, Outcome, PAYLOAD_BYTES, Progress, Record,
-    Refusal, Template, check,
+    Assembly, Echo, Good, IcmpPacket, Key, MAP_BYTES, Marks, Outcome, PAYLOAD_BYTES, Progress,
+    Record, Refusal, Template, check,
 };
 
 const ICMP: u8 = 1;
@@ -327,6 +327,7 @@ fn ping() -> Sent {
         dst: SERVER,
         echo: Echo::Request,
         seq: 0,
+        marks: Marks::default(),
     };
     sent(ICMP, &written(|out| echo.build(&[0x70; 3000], out)))
 }

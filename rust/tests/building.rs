@@ -2,7 +2,9 @@
 
 mod common;
 use common::*;
-use wispbundle::{Echo, Good, IcmpPacket, Piece, Refusal, TcpSegment, UdpDatagram, check, flags};
+use wispbundle::{
+    Echo, Good, IcmpPacket, Marks, Piece, Refusal, TcpSegment, UdpDatagram, check, flags,
+};
 
 fn syn() -> TcpSegment {
     TcpSegment {
@@ -18,6 +20,7 @@ fn echo() -> IcmpPacket {
         dst: SERVER,
         echo: Echo::Request,
         seq: 0,
+        marks: Marks::default(),
     }
 }
 

@@ -52,9 +52,9 @@ module _ (f : Feed) (b s′ : List ℕ) (x : FrameFed f b s′) where
   pub fits : Fitting t
   fits =
       record {
-        tos = omega arith;
+        tos = x .marked .0;
         id = x .number;
-        ttl = omega arith;
+        ttl = x .marked .1;
         protocol = omega arith;
         saddr = x .ends .0;
         daddr = x .ends .1;
@@ -102,7 +102,7 @@ module _ (f : Feed) (b s′ : List ℕ) (x : FrameFed f b s′) where
   unfolding udpPacket payloadOf
   datagram =
       ap (drop 20) (built-packet (Udp (frameDgram f)) b (x .scratch) s′ (Packet (28 + length b)) (28 + length b) built refl .1)
-      ∙ behind (flowIp 17 (28 + length b) 0 (f .car .ip) (f .core .ip)) _
+      ∙ behind (flowIp (f .marks) 17 (28 + length b) 0 (f .car .ip) (f .core .ip)) _
 
   -- what `datagram` builds of it
   good-again : (k : ℕ) (l : List ℕ) → k ≡ 8 + length b → l ≡ d → (o o′ : List ℕ) (n : ℕ) → Answered (datagramOf t k) l o (Packet n) o′ → checkAnswer o′ ≡ gives good

@@ -24,3 +24,4 @@ pub mod Reported
 pub mod Expected
 pub mod Reporting
 pub mod Options
+pub mod Marks

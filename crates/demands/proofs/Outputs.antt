@@ -27,7 +27,7 @@ use Rattle.tcp4.specs.declared.Side.{Side}
 use Rattle.tcp4.specs.declared.Side.the-variants.{Client, Server}
 use Rattle.inspect.specs.Header.{fieldAt}
 use Rattle.inspect.specs.Check.{checkAnswer}
-use Rattle.demands.specs.Ranges.{Between, InRange}
+use Rattle.demands.specs.Ranges.{Between, Marked, InRange}
 use Rattle.demands.specs.Outputs.{Stands, requestOf, EndToEnd, none, next, Sendable, BuiltAsOwed}
 use Rattle.demands.proofs.Checked.{packet-checked}
 
@@ -63,16 +63,16 @@ first q p o b n range bp e is =
 
 -- ---- several of a flow
 
--- A flow's packet has the flow's addresses, and the flow keeps them.
-in-range : (f : TcpFlow) (s : Side) (flags frag : ℕ) → frag < 65536 → Between (f .cl .ip) (f .sv .ip) → InRange (Tcp (segmentOf f s flags frag))
-in-range f Client flags frag h fits = (h, fits)
-in-range f Server flags frag h fits = (h, (fits .1, fits .0))
+-- A flow's packet has the flow's addresses and marks, and the flow keeps them.
+in-range : (f : TcpFlow) (s : Side) (flags frag : ℕ) → frag < 65536 → Between (f .cl .ip) (f .sv .ip) → Marked (f .marks) → InRange (Tcp (segmentOf f s flags frag))
+in-range f Client flags frag h fits m = (h, fits, m)
+in-range f Server flags frag h fits m = (h, (fits .1, fits .0), m)
 
-kept : (f : TcpFlow) (s : Side) (k : ℕ) → Between (f .cl .ip) (f .sv .ip) → Between (advance s k f .cl .ip) (advance s k f .sv .ip)
+kept : (f : TcpFlow) (s : Side) (k : ℕ) → Between (f .cl .ip) (f .sv .ip) × Marked (f .marks) → Between (advance s k f .cl .ip) (advance s k f .sv .ip) × Marked (advance s k f .marks)
 kept f Client k fits = fits
 kept f Server k fits = fits
 
-end-to-end : (b r o : List ℕ) (f : TcpFlow) (es : List Emit) (a : List ℕ) (i : ℕ) → Between (f .cl .ip) (f .sv .ip) → Sendable es
+end-to-end : (b r o : List ℕ) (f : TcpFlow) (es : List Emit) (a : List ℕ) (i : ℕ) → Between (f .cl .ip) (f .sv .ip) × Marked (f .marks) → Sendable es
     → anyLong es ≡ false → sizeAll es ≤ length o → b ≡ a ++ (sentBytes f es ++ r) → length a ≡ i → EndToEnd b f es i (endsFrom i es)
 end-to-end b r o f [] a i fits ok short room is at = none f i
 end-to-end b r o f (e ∷ es) a i fits ok short room is at =
@@ -85,7 +85,7 @@ end-to-end b r o f (e ∷ es) a i fits ok short room is at =
     let here : b ≡ a ++ (packetOf q p ++ (later ++ r)) = is ∙ ap (λ (l : List ℕ). a ++ l) (append-assoc (packetOf q p) later r) in
     let (whole, bp) = ok e (List·Memᴰ·head refl) in
     next f e es i (i + n) _
-    (stands q p o b a _ i n (in-range f (e .side) (e .flags) (e .frag) whole fits) bp given here at)
+    (stands q p o b a _ i n (in-range f (e .side) (e .flags) (e .frag) whole (fits .0) (fits .1)) bp given here at)
     (end-to-end b r o (afterOne f e) es (a ++ packetOf q p) (i + n) (kept f (e .side) _ fits) (λ x m. ok x (List·Memᴰ·tail m)) rest (omega arith)
     (here ∙ sym (append-assoc a (packetOf q p) (later ++ r)))
     (length-append a (packetOf q p) ∙ (let size = tcp-size (segmentOf f (e .side) (e .flags) (e .frag)) p in omega arith)))
@@ -105,7 +105,7 @@ was-accepted f es o g e =
     let same : all ≡ g = cc given in
     record { short = short; room = room; flow = ap (λ (x : Gone). x .flow) same; ends = ap (λ (x : Gone). x .ends) same }
 
-sent : (f : TcpFlow) (es : List Emit) (o b : List ℕ) (g : Gone) → Between (f .cl .ip) (f .sv .ip) → Sendable es
+sent : (f : TcpFlow) (es : List Emit) (o b : List ℕ) (g : Gone) → Between (f .cl .ip) (f .sv .ip) × Marked (f .marks) → Sendable es
     → sendAnswer f es (length o) ≡ gives g → b ≡ leaves (sendAnswer f es (length o)) (sentBytes f es) o → EndToEnd b f es 0 (g .ends)
 unfolding written
 sent f es o b g fits ok e is =
@@ -124,5 +124,5 @@ built-as-owed =
     record {
       building = λ q p o b n range bp x. first q p o b n range bp (sym (x .answer)) (x .after);
       echoing = λ e f g p o b n range bp x. first (Echo e) p o b n range bp (echo-given f g _ n (x .answer)) (x .after);
-      sending = λ f es o b r g fits ok x e. sent f es o b g fits ok (sym (x .answer) ∙ e) (x .after);
+      sending = λ f es o b r g fits m ok x e. sent f es o b g (fits, m) ok (sym (x .answer) ∙ e) (x .after);
     }

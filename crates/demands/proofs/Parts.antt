@@ -10,6 +10,7 @@ use Rattle.pkt.specs.Rfc768.{udpHeader, udpChecksum}
 use Rattle.pkt.specs.Rfc9293.{tcpHeader, tcpChecksum}
 use Rattle.pkt.specs.Rfc792.{echoHeader, echoChecksum, icmpNew, echoNew}
 use Rattle.ezpkt.specs.Build.{flowIp, tcpHdr, tcpPacket, udpHdr, udpPacket, echoType, echoPacket, startOf, endOf, moreFollow, pieceIp, piecePacket, packetOf}
+use Rattle.ezpkt.specs.declared.Marks.{Marks}
 use Rattle.ezpkt.specs.declared.build.TcpSegment.{TcpSegment}
 use Rattle.ezpkt.specs.declared.build.UdpDatagram.{UdpDatagram}
 use Rattle.ezpkt.specs.declared.build.IcmpEcho.{IcmpEcho}
@@ -19,19 +20,19 @@ use Rattle.ezpkt.specs.declared.build.Request.the-variants.{Tcp, Udp, Echo, Pie
 use Rattle.ezpkt.proofs.Deciding.{sized-fits, datagram-fits, piece-fits}
 use Rattle.inspect.specs.Encoded.{IpFit}
 use Rattle.mending.proofs.Encoded.{tcp-size, udp-size, echo-size}
-use Rattle.demands.specs.Ranges.{Fitting, Between, InRange}
+use Rattle.demands.specs.Ranges.{Fitting, Between, Marked, InRange}
 use Rattle.demands.specs.Mending.{Asked}
 use Rattle.demands.specs.Options.{Parts}
 use Rattle.demands.proofs.Pieces.{piece-fit}
 
-pub flow-fit : (p size frag s d : ℕ) → p < 256 → size < 65536 → frag < 65536 → Between s d → IpFit (flowIp p size frag s d)
-flow-fit p size frag s d hp hn hf hb =
+pub flow-fit : (m : Marks) (p size frag s d : ℕ) → p < 256 → size < 65536 → frag < 65536 → Between s d → Marked m → IpFit (flowIp m p size frag s d)
+flow-fit m p size frag s d hp hn hf hb hm =
     record {
-      tos = omega arith;
+      tos = hm .0;
       total = hn;
       id = omega arith;
       frag = hf;
-      ttl = omega arith;
+      ttl = hm .1;
       protocol = hp;
       saddr = hb .0;
       daddr = hb .1;
@@ -40,27 +41,27 @@ flow-fit p size frag s d hp hn hf hb =
 abbrev pub tcp-parts : (t : TcpSegment) (p : List ℕ) → InRange (Tcp t) → length p ≤ 65495 → Parts
 tcp-parts t p range few =
     record {
-      header = flowIp 6 (40 + length p) (t .«frag_off») (t .saddr) (t .daddr);
+      header = flowIp (t .marks) 6 (40 + length p) (t .«frag_off») (t .saddr) (t .daddr);
       part = tcpHeader (tcpHdr t) (tcpChecksum (t .saddr) (t .daddr) (tcpHdr t) p) ++ p;
-      fits = flow-fit 6 (40 + length p) (t .«frag_off») (t .saddr) (t .daddr) (omega arith) (omega arith) (range .0) (range .1);
+      fits = flow-fit (t .marks) 6 (40 + length p) (t .«frag_off») (t .saddr) (t .daddr) (omega arith) (omega arith) (range .0) (range .1) (range .2);
       total = omega (arith, tcp-size p (tcpChecksum (t .saddr) (t .daddr) (tcpHdr t) p) (tcpHdr t));
     }
 
 abbrev pub udp-parts : (u : UdpDatagram) (p : List ℕ) → InRange (Udp u) → length p ≤ 65507 → Parts
 udp-parts u p range few =
     record {
-      header = flowIp 17 (28 + length p) (u .«frag_off») (u .saddr) (u .daddr);
+      header = flowIp (u .marks) 17 (28 + length p) (u .«frag_off») (u .saddr) (u .daddr);
       part = udpHeader (udpHdr u (length p)) (udpChecksum (u .saddr) (u .daddr) (udpHdr u (length p)) p) ++ p;
-      fits = flow-fit 17 (28 + length p) (u .«frag_off») (u .saddr) (u .daddr) (omega arith) (omega arith) (range .0) (range .1);
+      fits = flow-fit (u .marks) 17 (28 + length p) (u .«frag_off») (u .saddr) (u .daddr) (omega arith) (omega arith) (range .0) (range .1) (range .2);
       total = omega (arith, udp-size p (udpChecksum (u .saddr) (u .daddr) (udpHdr u (length p)) p) (udpHdr u (length p)));
     }
 
 abbrev pub echo-parts : (e : IcmpEcho) (p : List ℕ) → InRange (Echo e) → length p ≤ 65507 → Parts
 echo-parts e p range few =
     record {
-      header = flowIp 1 (28 + length p) 0 (e .saddr) (e .daddr);
+      header = flowIp (e .marks) 1 (28 + length p) 0 (e .saddr) (e .daddr);
       part = echoHeader (icmpNew (echoType (e .reply))) (echoNew (e .seq)) (echoChecksum (icmpNew (echoType (e .reply))) (echoNew (e .seq)) p) ++ p;
-      fits = flow-fit 1 (28 + length p) 0 (e .saddr) (e .daddr) (omega arith) (omega arith) (omega arith) range;
+      fits = flow-fit (e .marks) 1 (28 + length p) 0 (e .saddr) (e .daddr) (omega arith) (omega arith) (omega arith) (range .0) (range .1);
       total =
           omega (
             arith,

@@ -55,20 +55,20 @@ module _ (t : Template) (len size : ℕ) where
   tcp-part : (x : TcpSegment) (p : List ℕ) → Names t 6 (x .saddr) (x .daddr) → Bytes p → partAnswer whole (drop 20 (tcpPacket x p)) ≡ gives good
   unfolding whole tcpPacket readOf
   tcp-part x p (six, s, d) bp =
-      ap (partAnswer whole) (behind (flowIp 6 (40 + length p) (x .«frag_off») (x .saddr) (x .daddr)) _)
+      ap (partAnswer whole) (behind (flowIp (x .marks) 6 (40 + length p) (x .«frag_off») (x .saddr) (x .daddr)) _)
       ∙ rw (← s, ← d) (tcp-good whole p bp no-piece (tcpHdr x) six)
 
   udp-part : (x : UdpDatagram) (p : List ℕ) → Names t 17 (x .saddr) (x .daddr) → Bytes p → length p ≤ 65507
       → partAnswer whole (drop 20 (udpPacket x p)) ≡ gives good
   unfolding whole udpPacket readOf
   udp-part x p (seventeen, s, d) bp few =
-      ap (partAnswer whole) (behind (flowIp 17 (28 + length p) (x .«frag_off») (x .saddr) (x .daddr)) _)
+      ap (partAnswer whole) (behind (flowIp (x .marks) 17 (28 + length p) (x .«frag_off») (x .saddr) (x .daddr)) _)
       ∙ rw (← s, ← d) (udp-good whole p bp no-piece (udpHdr x (length p)) seventeen refl (omega arith))
 
   echo-part : (x : IcmpEcho) (p : List ℕ) → Names t 1 (x .saddr) (x .daddr) → Bytes p → partAnswer whole (drop 20 (echoPacket x p)) ≡ gives good
   unfolding whole echoPacket readOf
   echo-part x p names bp =
-      ap (partAnswer whole) (behind (flowIp 1 (28 + length p) 0 (x .saddr) (x .daddr)) _)
+      ap (partAnswer whole) (behind (flowIp (x .marks) 1 (28 + length p) 0 (x .saddr) (x .daddr)) _)
       ∙ echo-good whole p bp no-piece (icmpNew (echoType (x .reply))) (echoNew (x .seq)) (names .0)
 
   -- The payload of a packet that is built is called good.

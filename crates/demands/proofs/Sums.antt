@@ -20,6 +20,7 @@ use Rattle.pkt.proofs.Bytes.{bytes-nil, bytes-append}
 use Rattle.pkt.proofs.Fields.{be-bytes}
 use Rattle.pkt.proofs.Checksum.{checksum-most, nonzero-range}
 use Rattle.ezpkt.specs.Build.{flowIp, tcpHdr, tcpPacket, udpHdr, udpPacket, echoType, echoPacket, packetOf}
+use Rattle.ezpkt.specs.declared.Marks.{Marks}
 use Rattle.ezpkt.specs.declared.build.TcpSegment.{TcpSegment}
 use Rattle.ezpkt.specs.declared.build.UdpDatagram.{UdpDatagram}
 use Rattle.ezpkt.specs.declared.build.IcmpEcho.{IcmpEcho}
@@ -63,22 +64,22 @@ module _ (h : «ip_hdr») (fit : IpFit h) (d : List ℕ) (total : h .«tot_len»
 
 -- ---- other addresses in the header
 
-readdressed-is : (k size frag s d s′ d′ : ℕ) (l : List ℕ)
-    → readdressed s′ d′ (ipHeader (flowIp k size frag s d) ++ l) ≡ ipBytes (flowIp k size frag s′ d′) (checksum (ipBytes (flowIp k size frag s d) 0)) ++ l
+readdressed-is : (m : Marks) (k size frag s d s′ d′ : ℕ) (l : List ℕ)
+    → readdressed s′ d′ (ipHeader (flowIp m k size frag s d) ++ l) ≡ ipBytes (flowIp m k size frag s′ d′) (checksum (ipBytes (flowIp m k size frag s d) 0)) ++ l
 unfolding ipHeader ipBytes
-readdressed-is k size frag s d s′ d′ l = refl
+readdressed-is m k size frag s d s′ d′ l = refl
 
 -- ---- TCP
 
 module _ (t : TcpSegment) (p : List ℕ) (a : Asked (Tcp t) p) where
   -- the header between any addresses
   abbrev tcpIp : ℕ → ℕ → «ip_hdr»
-  tcpIp s d = flowIp 6 (40 + length p) (t .«frag_off») s d
+  tcpIp s d = flowIp (t .marks) 6 (40 + length p) (t .«frag_off») s d
 
   tcp-fit : (s d : ℕ) → Between s d → IpFit (tcpIp s d)
   tcp-fit s d ends =
       let few = sized-fits 65495 40 (length p) (a .room) (a .size) (a .taken) .few in
-      flow-fit 6 (40 + length p) (t .«frag_off») s d (omega arith) (omega arith) (a .range .0) ends
+      flow-fit (t .marks) 6 (40 + length p) (t .«frag_off») s d (omega arith) (omega arith) (a .range .0) ends (a .range .2)
 
   -- with any numbers for the sums
   tcp-mends : (s d x c : ℕ) → Between s d → Whole (Tcp t)
@@ -99,7 +100,7 @@ module _ (t : TcpSegment) (p : List ℕ) (a : Asked (Tcp t) p) where
   tcp-moved : (s d : ℕ) → Between s d → Whole (Tcp t) → mendPacket (readdressed s d (tcpPacket t p)) ≡ packetOf (between s d (Tcp t)) p
   unfolding tcpPacket
   tcp-moved s d ends whole =
-      ap mendPacket (readdressed-is 6 (40 + length p) (t .«frag_off») (t .saddr) (t .daddr) s d _) ∙ tcp-mends s d _ _ ends whole
+      ap mendPacket (readdressed-is (t .marks) 6 (40 + length p) (t .«frag_off») (t .saddr) (t .daddr) s d _) ∙ tcp-mends s d _ _ ends whole
 
 -- ---- UDP
 
@@ -109,7 +110,7 @@ udp-range s d y p = nonzero-range _ (checksum-most _)
 
 module _ (u : UdpDatagram) (p : List ℕ) (a : Asked (Udp u) p) where
   abbrev udpIp : ℕ → ℕ → «ip_hdr»
-  udpIp s d = flowIp 17 (28 + length p) (u .«frag_off») s d
+  udpIp s d = flowIp (u .marks) 17 (28 + length p) (u .«frag_off») s d
 
   abbrev y : «udp_hdr»
   y = udpHdr u (length p)
@@ -117,7 +118,7 @@ module _ (u : UdpDatagram) (p : List ℕ) (a : Asked (Udp u) p) where
   udp-fit : (s d : ℕ) → Between s d → IpFit (udpIp s d)
   udp-fit s d ends =
       let few = datagram-fits u (length p) (a .room) (a .size) (a .taken) .few in
-      flow-fit 17 (28 + length p) (u .«frag_off») s d (omega arith) (omega arith) (a .range .0) ends
+      flow-fit (u .marks) 17 (28 + length p) (u .«frag_off») s d (omega arith) (omega arith) (a .range .0) ends (a .range .2)
 
   -- with any number but 0 for the checksum
   udp-mends : (s d x c : ℕ) → Between s d → (1 ≤ c) × (c ≤ 65535) → Whole (Udp u)
@@ -138,14 +139,14 @@ module _ (u : UdpDatagram) (p : List ℕ) (a : Asked (Udp u) p) where
   udp-moved : (s d : ℕ) → Between s d → Whole (Udp u) → mendPacket (readdressed s d (udpPacket u p)) ≡ packetOf (between s d (Udp u)) p
   unfolding udpPacket
   udp-moved s d ends whole =
-      ap mendPacket (readdressed-is 17 (28 + length p) (u .«frag_off») (u .saddr) (u .daddr) s d _)
+      ap mendPacket (readdressed-is (u .marks) 17 (28 + length p) (u .«frag_off») (u .saddr) (u .daddr) s d _)
       ∙ udp-mends s d _ _ ends (udp-range (u .saddr) (u .daddr) y p) whole
 
 -- ---- ICMP
 
 module _ (e : IcmpEcho) (p : List ℕ) (a : Asked (Echo e) p) where
   abbrev echoIp : ℕ → ℕ → «ip_hdr»
-  echoIp s d = flowIp 1 (28 + length p) 0 s d
+  echoIp s d = flowIp (e .marks) 1 (28 + length p) 0 s d
 
   abbrev i : «icmp_hdr»
   i = icmpNew (echoType (e .reply))
@@ -156,7 +157,7 @@ module _ (e : IcmpEcho) (p : List ℕ) (a : Asked (Echo e) p) where
   echo-fit : (s d : ℕ) → Between s d → IpFit (echoIp s d)
   echo-fit s d ends =
       let few = sized-fits 65507 28 (length p) (a .room) (a .size) (a .taken) .few in
-      flow-fit 1 (28 + length p) 0 s d (omega arith) (omega arith) (omega arith) ends
+      flow-fit (e .marks) 1 (28 + length p) 0 s d (omega arith) (omega arith) (omega arith) ends (a .range .1)
 
   echo-mends : (s d x c : ℕ) → Between s d
       → mendPacket (ipBytes (echoIp s d) x ++ (echoHeader i n c ++ p)) ≡ ipHeader (echoIp s d) ++ (echoHeader i n (echoChecksum i n p) ++ p)
@@ -169,12 +170,12 @@ module _ (e : IcmpEcho) (p : List ℕ) (a : Asked (Echo e) p) where
   unfolding echoPacket ipHeader
   echo-right =
       let c : ℕ = echoChecksum i n p in
-      right (echoIp (e .saddr) (e .daddr)) (echo-fit (e .saddr) (e .daddr) (a .range)) (echoHeader i n c ++ p) (omega (arith, echo-size p c i n))
-      (echo-bytes p c i n (a .bytes)) (λ clear piece. echo-mends (e .saddr) (e .daddr) _ c (a .range))
+      right (echoIp (e .saddr) (e .daddr)) (echo-fit (e .saddr) (e .daddr) (a .range .0)) (echoHeader i n c ++ p) (omega (arith, echo-size p c i n))
+      (echo-bytes p c i n (a .bytes)) (λ clear piece. echo-mends (e .saddr) (e .daddr) _ c (a .range .0))
 
   echo-moved : (s d : ℕ) → Between s d → mendPacket (readdressed s d (echoPacket e p)) ≡ packetOf (between s d (Echo e)) p
   unfolding echoPacket
-  echo-moved s d ends = ap mendPacket (readdressed-is 1 (28 + length p) 0 (e .saddr) (e .daddr) s d _) ∙ echo-mends s d _ _ ends
+  echo-moved s d ends = ap mendPacket (readdressed-is (e .marks) 1 (28 + length p) 0 (e .saddr) (e .daddr) s d _) ∙ echo-mends s d _ _ ends
 
 -- ---- all
 
@@ -193,13 +194,13 @@ moved-mended (Piece q) p s d a w b = absurd w
 whole-bytes : (q : Request) (p : List ℕ) → Bytes p → Whole q → Bytes (packetOf q p)
 unfolding tcpPacket udpPacket echoPacket
 whole-bytes (Tcp t) p bp w =
-    encoded-bytes (flowIp 6 (40 + length p) (t .«frag_off») (t .saddr) (t .daddr)) _ (tcp-bytes p (tcpChecksum (t .saddr) (t .daddr) (tcpHdr t) p) (tcpHdr t) bp)
+    encoded-bytes (flowIp (t .marks) 6 (40 + length p) (t .«frag_off») (t .saddr) (t .daddr)) _ (tcp-bytes p (tcpChecksum (t .saddr) (t .daddr) (tcpHdr t) p) (tcpHdr t) bp)
 whole-bytes (Udp u) p bp w =
-    encoded-bytes (flowIp 17 (28 + length p) (u .«frag_off») (u .saddr) (u .daddr)) _ (udp-bytes p (udpChecksum (u .saddr) (u .daddr) (udpHdr u (length p)) p) (udpHdr u (length p)) bp)
+    encoded-bytes (flowIp (u .marks) 17 (28 + length p) (u .«frag_off») (u .saddr) (u .daddr)) _ (udp-bytes p (udpChecksum (u .saddr) (u .daddr) (udpHdr u (length p)) p) (udpHdr u (length p)) bp)
 whole-bytes (Echo e) p bp w =
     let i : «icmp_hdr» = icmpNew (echoType (e .reply)) in
     let n : «icmp_echo_hdr» = echoNew (e .seq) in
-    encoded-bytes (flowIp 1 (28 + length p) 0 (e .saddr) (e .daddr)) _ (echo-bytes p (echoChecksum i n p) i n bp)
+    encoded-bytes (flowIp (e .marks) 1 (28 + length p) 0 (e .saddr) (e .daddr)) _ (echo-bytes p (echoChecksum i n p) i n bp)
 whole-bytes (Piece q) p bp w = absurd w
 
 pub moved-bytes : (q : Request) (p : List ℕ) (s d : ℕ) → Bytes p → Whole q → Bytes (readdressed s d (packetOf q p))

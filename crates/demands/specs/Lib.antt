@@ -17,4 +17,5 @@ pub mod Laps
 pub mod Plans
 pub mod Mending
 pub mod Options
+pub mod Marks
 pub mod Reporting

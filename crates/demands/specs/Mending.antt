@@ -60,9 +60,10 @@ between s d (Tcp t) =
       ack = t .ack;
       flags = t .flags;
       «frag_off» = t .«frag_off»;
+      marks = t .marks;
     })
-between s d (Udp u) = Udp (record { saddr = s; daddr = d; sport = u .sport; dport = u .dport; «frag_off» = u .«frag_off»; csum = u .csum })
-between s d (Echo e) = Echo (record { saddr = s; daddr = d; reply = e .reply; seq = e .seq })
+between s d (Udp u) = Udp (record { saddr = s; daddr = d; sport = u .sport; dport = u .dport; «frag_off» = u .«frag_off»; csum = u .csum; marks = u .marks })
+between s d (Echo e) = Echo (record { saddr = s; daddr = d; reply = e .reply; seq = e .seq; marks = e .marks })
 between s d (Piece q) = Piece q
 
 -- a packet of a capture: its time, what was asked for, and the addresses that were put in place of its own

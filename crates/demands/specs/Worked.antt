@@ -6,7 +6,7 @@ use Prim.Native.Nat.{ℕ, _+_}
 use lib.ListN.{length, drop}
 use Rattle.pkt.specs.Answers.{gives, csumAnswer, mapped}
 use Rattle.pkt.specs.Rfc9293.{SYN, PSH, ACK}
-use Rattle.ezpkt.specs.Build.{packetOf}
+use Rattle.ezpkt.specs.Build.{unmarked, packetOf}
 use Rattle.ezpkt.specs.Ip4.{fragmentOf}
 use Rattle.tcp4.specs.Tcp4.{newTcpFlow, emit, opening, segmentOf, sentBytes, sendAnswer}
 use Rattle.tcp4.specs.Sequence.{flowBy}
@@ -53,7 +53,7 @@ syn = packetOf (Tcp (segmentOf (flowAt 1000 5000) Client SYN 0)) []
 
 -- "UDP 10.0.0.1:1 to 10.0.0.2:2, payload eb d4"
 unfoldable pub datagram : List ℕ
-datagram = packetOf (Udp (record { saddr = client; daddr = server; sport = 1; dport = 2; «frag_off» = 0; csum = true })) (0xeb ∷ 0xd4 ∷ [])
+datagram = packetOf (Udp (record { saddr = client; daddr = server; sport = 1; dport = 2; «frag_off» = 0; csum = true; marks = unmarked })) (0xeb ∷ 0xd4 ∷ [])
 
 -- "`open` at 1000 and 5000": its three packets, end to end
 unfoldable pub handshake : List ℕ

@@ -1,5 +1,6 @@
 // What the cars send: a telemetry datagram each, cut in three pieces of up to two blocks.
 use assembly::Key;
+use ezpkt::Marks;
 use ezpkt::build;
 use ezpkt::build::Built;
 use ezpkt::build::Request;
@@ -59,6 +60,7 @@ pub(crate) fn datagram(car: u8, frag_off: u16, words: &[u8]) -> Whole {
         dport: 80,
         frag_off,
         csum: true,
+        marks: Marks::default(),
     });
     let mut bytes = [0u8; 80];
     let n = size_of(build::build(request, words, &mut bytes));

@@ -48,21 +48,21 @@ behind h t = drop-at (ipHeader h) t 20 (ip-length h)
 pub tcp-sum-verifies : (t : TcpSegment) (p : List ℕ) → Bytes p → Verifies (pseudo (t .saddr) (t .daddr) 6 (20 + length p) ++ drop 20 (tcpPacket t p))
 unfolding tcpPacket
 tcp-sum-verifies t p bp =
-    rw (behind (flowIp 6 (40 + length p) (t .«frag_off») (t .saddr) (t .daddr))) (tcp-verifies (t .saddr) (t .daddr) p bp (tcpHdr t))
+    rw (behind (flowIp (t .marks) 6 (40 + length p) (t .«frag_off») (t .saddr) (t .daddr))) (tcp-verifies (t .saddr) (t .daddr) p bp (tcpHdr t))
 
 -- a UDP datagram's,
 pub udp-sum-verifies : (u : UdpDatagram) (p : List ℕ) → Bytes p
     → Verifies (pseudo (u .saddr) (u .daddr) 17 (8 + length p) ++ drop 20 (udpPacket u p))
 unfolding udpPacket
 udp-sum-verifies u p bp =
-    rw (behind (flowIp 17 (28 + length p) (u .«frag_off») (u .saddr) (u .daddr)))
+    rw (behind (flowIp (u .marks) 17 (28 + length p) (u .«frag_off») (u .saddr) (u .daddr)))
     (udp-verifies (u .saddr) (u .daddr) p bp (udpHdr u (length p)))
 
 -- and an echo's verifies with nothing before it.
 pub echo-sum-verifies : (e : IcmpEcho) (p : List ℕ) → Bytes p → Verifies (drop 20 (echoPacket e p))
 unfolding echoPacket
 echo-sum-verifies e p bp =
-    rw (behind (flowIp 1 (28 + length p) 0 (e .saddr) (e .daddr))) (echo-verifies (icmpNew (echoType (e .reply))) (echoNew (e .seq)) p bp)
+    rw (behind (flowIp (e .marks) 1 (28 + length p) 0 (e .saddr) (e .daddr))) (echo-verifies (icmpNew (echoType (e .reply))) (echoNew (e .seq)) p bp)
 
 -- Where a length is answered, the packet stands at the start of the output,
 pub packet-front : (q : Request) (p o o′ : List ℕ) (n : ℕ) → answerOf q (length p) (length o) ≡ gives n

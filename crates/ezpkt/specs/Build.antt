@@ -18,6 +18,7 @@ use Rattle.pkt.specs.declared.ipv4.«tcp_hdr».{«tcp_hdr»}
 use Rattle.pkt.specs.declared.ipv4.«udp_hdr».{«udp_hdr»}
 use Rattle.pkt.specs.Written.{Wrote}
 use Rattle.ezpkt.specs.Answers.{builtSays}
+use Rattle.ezpkt.specs.declared.Marks.{Marks}
 use Rattle.ezpkt.specs.declared.build.TcpSegment.{TcpSegment}
 use Rattle.ezpkt.specs.declared.build.UdpDatagram.{UdpDatagram}
 use Rattle.ezpkt.specs.declared.build.IcmpEcho.{IcmpEcho}
@@ -26,16 +27,20 @@ use Rattle.ezpkt.specs.declared.build.Request.{Request}
 use Rattle.ezpkt.specs.declared.build.Request.the-variants.{Tcp, Udp, Echo, Piece}
 use Rattle.ezpkt.specs.declared.build.Built.{Built}
 
--- The IPv4 header of a packet with no template: TOS, id and TTL are the defaults; protocol p, total length, flags and offset, source and
--- destination are given.
-abbrev pub flowIp : ℕ → ℕ → ℕ → ℕ → ℕ → «ip_hdr»
-flowIp p size frag s d =
+-- Document 02, T-12: "With TOS 0 and TTL 64 all packets equal the Rust's as before": those of a new flow
+abbrev pub unmarked : Marks
+unmarked = record { tos = ipDefault .tos; ttl = ipDefault .ttl }
+
+-- The IPv4 header of a packet with no template, the one definition for all of them: the id is the default; TOS and TTL, protocol p, total length,
+-- flags and offset, source and destination are given.
+abbrev pub flowIp : Marks → ℕ → ℕ → ℕ → ℕ → ℕ → «ip_hdr»
+flowIp m p size frag s d =
     record {
-      tos = ipDefault .tos;
+      tos = m .tos;
       «tot_len» = size;
       id = ipDefault .id;
       «frag_off» = frag;
-      ttl = ipDefault .ttl;
+      ttl = m .ttl;
       protocol = p;
       saddr = s;
       daddr = d;
@@ -48,7 +53,7 @@ tcpHdr t = record { sport = t .sport; dport = t .dport; seq = t .seq; ack = t .a
 
 unfoldable pub tcpPacket : TcpSegment → List ℕ → List ℕ
 tcpPacket t p =
-    ipHeader (flowIp 6 (40 + length p) (t .«frag_off») (t .saddr) (t .daddr))
+    ipHeader (flowIp (t .marks) 6 (40 + length p) (t .«frag_off») (t .saddr) (t .daddr))
     ++ (tcpHeader (tcpHdr t) (tcpChecksum (t .saddr) (t .daddr) (tcpHdr t) p) ++ p)
 
 -- ---- a UDP datagram
@@ -58,7 +63,7 @@ udpHdr u n = record { sport = u .sport; dport = u .dport; len = 8 + n }
 
 unfoldable pub udpPacket : UdpDatagram → List ℕ → List ℕ
 udpPacket u p =
-    ipHeader (flowIp 17 (28 + length p) (u .«frag_off») (u .saddr) (u .daddr))
+    ipHeader (flowIp (u .marks) 17 (28 + length p) (u .«frag_off») (u .saddr) (u .daddr))
     ++ (udpHeader (udpHdr u (length p)) (udpChecksum (u .saddr) (u .daddr) (udpHdr u (length p)) p) ++ p)
 
 -- ---- an ICMP echo
@@ -69,7 +74,7 @@ echoType reply = cond reply 0 8
 
 unfoldable pub echoPacket : IcmpEcho → List ℕ → List ℕ
 echoPacket e p =
-    ipHeader (flowIp 1 (28 + length p) 0 (e .saddr) (e .daddr))
+    ipHeader (flowIp (e .marks) 1 (28 + length p) 0 (e .saddr) (e .daddr))
     ++ (echoHeader (icmpNew (echoType (e .reply))) (echoNew (e .seq)) (echoChecksum (icmpNew (echoType (e .reply))) (echoNew (e .seq)) p) ++ p)
 
 -- ---- a piece

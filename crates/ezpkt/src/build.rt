@@ -1,4 +1,5 @@
 // One request to build names one kind of packet.
+use crate::Marks;
 use crate::ip4;
 use crate::ip4::Template;
 use crate::write;
@@ -22,6 +23,7 @@ pub struct TcpSegment {
     pub ack: u32,
     pub flags: u8,
     pub frag_off: u16,
+    pub marks: Marks,
 }
 
 impl TcpSegment {
@@ -48,6 +50,7 @@ pub struct UdpDatagram {
     pub dport: u16,
     pub frag_off: u16,
     pub csum: bool,
+    pub marks: Marks,
 }
 
 // An ICMP echo, or the reply to one, with its number.
@@ -57,6 +60,7 @@ pub struct IcmpEcho {
     pub daddr: u32,
     pub reply: bool,
     pub seq: u16,
+    pub marks: Marks,
 }
 
 // A piece of an IPv4 payload: len blocks of 8 bytes from block off.

@@ -1,4 +1,5 @@
 // The writers behind a decision: what they are asked for is known to fit.
+use crate::Marks;
 use crate::build::IcmpEcho;
 use crate::build::IpPiece;
 use crate::build::Request;
@@ -40,10 +41,12 @@ fn put_all(ip: &[u8; 20], head: &[u8], payload: &[u8], out: &mut [u8])
 }
 
 // The IPv4 header of a packet that has no template.
-fn flow_ip(protocol: u8, size: u16, frag_off: u16, saddr: u32, daddr: u32) -> [u8; 20]
-    ensures { λ r. ⌜ r ≡ ipHeader (flowIp protocol size «frag_off» saddr daddr) ⌝ }
+fn flow_ip(marks: Marks, protocol: u8, size: u16, frag_off: u16, saddr: u32, daddr: u32) -> [u8; 20]
+    ensures { λ r. ⌜ r ≡ ipHeader (flowIp marks protocol size «frag_off» saddr daddr) ⌝ }
 {
     let mut ip = ip_hdr::default();
+    ip.tos = marks.tos;
+    ip.ttl = marks.ttl;
     ip.tot_len = size;
     ip.frag_off = frag_off;
     ip.protocol = protocol;
@@ -68,7 +71,9 @@ fn tcp(t: TcpSegment, payload: &[u8], out: &mut [u8])
 {
     let h = t.hdr();
     let csum = number(ipv4::tcp_csum(t.saddr, t.daddr, h, payload));
+    let marks = t.marks;
     let ip = flow_ip(
+        marks,
         ipv4::proto::TCP,
         (40 + payload.len()) as u16,
         t.frag_off,
@@ -90,7 +95,9 @@ fn udp(u: UdpDatagram, payload: &[u8], out: &mut [u8])
         len: (8 + n) as u16,
     };
     let csum = number(ipv4::udp_csum(u.saddr, u.daddr, h, payload));
+    let marks = u.marks;
     let ip = flow_ip(
+        marks,
         ipv4::proto::UDP,
         (28 + n) as u16,
         u.frag_off,
@@ -118,7 +125,9 @@ fn echo(e: IcmpEcho, payload: &[u8], out: &mut [u8])
     let h = icmp_hdr::new(echo_type(e.reply));
     let numbers = icmp_echo_hdr::new(e.seq);
     let csum = number(ipv4::icmp_csum(h, numbers, payload));
+    let marks = e.marks;
     let ip = flow_ip(
+        marks,
         ipv4::proto::ICMP,
         (28 + payload.len()) as u16,
         0,

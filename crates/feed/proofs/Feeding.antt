@@ -62,7 +62,7 @@ payload-length f b = length-append (udpHeader (udpHdr (frameDgram f) (length b))
 pub payload-lent : (f : Feed) (b s : List ℕ) (k : ℕ) → k ≡ 8 + length b → take k (drop 20 (written (udpPacket (frameDgram f) b) s)) ≡ payloadOf f b
 unfolding udpPacket written payloadOf
 payload-lent f b s k e =
-    let ip : List ℕ = ipHeader (flowIp 17 (28 + length b) 0 (f .car .ip) (f .core .ip)) in
+    let ip : List ℕ = ipHeader (flowIp (f .marks) 17 (28 + length b) 0 (f .car .ip) (f .core .ip)) in
     let h : «udp_hdr» = udpHdr (frameDgram f) (length b) in
     let udp : List ℕ = udpHeader h (udpChecksum (f .car .ip) (f .core .ip) h b) ++ b in
     let rest : List ℕ = drop (length (ip ++ udp)) s in

@@ -18,10 +18,11 @@ use Rattle.pcap.proofs.Answers.{fitting-fits}
 use Rattle.pcap.proofs.Pcap.{file-header-length}
 use Rattle.pcap.proofs.Read.{capture-read}
 use Rattle.pcap.proofs.Runs.{records-append, takable-append}
+use Rattle.ezpkt.specs.declared.Marks.{Marks}
 use Rattle.feed.specs.declared.Feed.{Feed}
 use Rattle.feed.specs.declared.Written.{Written}
 use Rattle.feed.specs.declared.Fed.the-variants as fed
-use Rattle.feed.specs.Feed.{newFeed, nextFeed, frameDgram, framePackets, stampedAt, frameRecords, writtenFor, Feeds}
+use Rattle.feed.specs.Feed.{newFeed, feedMarked, nextFeed, frameDgram, framePackets, stampedAt, frameRecords, writtenFor, Feeds}
 use Rattle.feed.specs.Runs.{feedAt, lapFrom, lapRecords, FramesWritten, none, accepted, refused, LapWritten, behindHeader, ReadsLap}
 use Rattle.feed.proofs.Feeding.{Granted, granted}
 use Rattle.feed.proofs.Fitting.{frames-fit}
@@ -82,26 +83,26 @@ module _ (f : Feed) (b : List ℕ) (sec usec : ℕ) (s o : List ℕ) (w : Writte
 
 -- ---- one frame behind the other
 
-module _ (car core : SocketAddrV4) (link : ℕ) where
+module _ (car core : SocketAddrV4) (link : ℕ) (m : Marks) where
   -- the feed after frame number i is the one before the next
-  next-number : (i : ℕ) → nextFeed (feedAt car core link i) ≡ feedAt car core link (suc i)
+  next-number : (i : ℕ) → nextFeed (feedAt car core link m i) ≡ feedAt car core link m (suc i)
   next-number i =
       let e : (i % 65536 + 1) % 65536 ≡ suc i % 65536 = omega arith in
-      ap (λ (k : ℕ). record { car = car; core = core; link = link; id = k }) e
+      ap (λ (k : ℕ). record { car = car; core = core; link = link; id = k; marks = m }) e
 
   -- Calls from frame number i on: what they wrote, and where they end.
   record Onward (i : ℕ) (xs : List Stamped) (g : Feed) (c : List ℕ) : Type 0 where
-    bytes : c ≡ recordsBytes (lapFrom car core link i xs)
-    takable : AllTakable (lapFrom car core link i xs)
-    feed : g ≡ feedAt car core link (i + length xs)
+    bytes : c ≡ recordsBytes (lapFrom car core link m i xs)
+    takable : AllTakable (lapFrom car core link m i xs)
+    feed : g ≡ feedAt car core link m (i + length xs)
 
-  fed-on : (i : ℕ) (f : Feed) (xs : List Stamped) (g : Feed) (c : List ℕ) → f ≡ feedAt car core link i → FramesWritten f xs g c → Onward i xs g c
+  fed-on : (i : ℕ) (f : Feed) (xs : List Stamped) (g : Feed) (c : List ℕ) → f ≡ feedAt car core link m i → FramesWritten f xs g c → Onward i xs g c
   unfolding lapFrom recordsBytes AllTakable
-  fed-on i _ _ _ _ e (none f) = record { bytes = refl; takable = tt; feed = e ∙ ap (feedAt car core link) (omega arith) }
+  fed-on i _ _ _ _ e (none f) = record { bytes = refl; takable = tt; feed = e ∙ ap (feedAt car core link m) (omega arith) }
   fed-on i _ _ _ _ e (refused f x xs g c s o s′ o′ n y more) = fed-on i f xs g c e more
   fed-on i _ _ _ _ e (accepted f x xs g c s o s′ o′ w hs y more) =
-      let here : List Stamped = frameRecords (feedAt car core link i) (x .packet) (x .sec) (x .usec) in
-      let behind : List Stamped = lapFrom car core link (suc i) xs in
+      let here : List Stamped = frameRecords (feedAt car core link m i) (x .packet) (x .sec) (x .usec) in
+      let behind : List Stamped = lapFrom car core link m (suc i) xs in
       let same : frameRecords f (x .packet) (x .sec) (x .usec) ≡ here = ap (λ (h : Feed). frameRecords h (x .packet) (x .sec) (x .usec)) e in
       let l = left f (x .packet) (x .sec) (x .usec) s o w s′ o′ y in
       let later = fed-on (suc i) (w .feed) xs g c (l .next ∙ ap nextFeed e ∙ next-number i) more in
@@ -110,7 +111,7 @@ module _ (car core : SocketAddrV4) (link : ℕ) where
             ap₂ _++_ (wrote f (x .packet) (x .sec) (x .usec) s o w s′ o′ y ∙ ap recordsBytes same) (later .bytes)
             ∙ sym (records-append here behind);
         takable = takable-append here behind (subst AllTakable same (takable f (x .packet) (x .sec) (x .usec) s o w s′ o′ y hs)) (later .takable);
-        feed = later .feed ∙ ap (feedAt car core link) (omega arith);
+        feed = later .feed ∙ ap (feedAt car core link m) (omega arith);
       }
 
   -- what `begin` wrote
@@ -121,16 +122,16 @@ module _ (car core : SocketAddrV4) (link : ℕ) where
       let put = x .after ∙ ap (λ (a : Answer ℕ). leaves a fileHeader o) (sym (x .answer)) in
       ap (take k) put ∙ take-at fileHeader _ k (file-header-length ∙ fits .1)
 
-  lap-is : (xs : List Stamped) (g : Feed) (l : List ℕ) → LapWritten (newFeed car core link) xs g l
-      → (l ≡ captureBytes (lapRecords car core link xs)) × AllTakable (lapRecords car core link xs) × (g ≡ feedAt car core link (length xs))
+  lap-is : (xs : List Stamped) (g : Feed) (l : List ℕ) → LapWritten (feedMarked (newFeed car core link) m) xs g l
+      → (l ≡ captureBytes (lapRecords car core link m xs)) × AllTakable (lapRecords car core link m xs) × (g ≡ feedAt car core link m (length xs))
   unfolding captureBytes
   lap-is xs g _ (behindHeader c o o′ k x more) =
-      let all = fed-on 0 (newFeed car core link) xs g c refl more in
-      (ap₂ _++_ (header-first o o′ k x) (all .bytes), all .takable, all .feed ∙ ap (feedAt car core link) (omega arith))
+      let all = fed-on 0 (feedMarked (newFeed car core link) m) xs g c refl more in
+      (ap₂ _++_ (header-first o o′ k x) (all .bytes), all .takable, all .feed ∙ ap (feedAt car core link m) (omega arith))
 
 pub reads-lap : ReadsLap
 reads-lap =
     record {
-      reads = λ car core link xs g l x. let (is, takable, _) = lap-is car core link xs g l x in ap readFile is ∙ capture-read (lapRecords car core link xs) takable;
-      numbers = λ car core link xs g l x. lap-is car core link xs g l x .2;
+      reads = λ car core link m xs g l x. let (is, takable, _) = lap-is car core link m xs g l x in ap readFile is ∙ capture-read (lapRecords car core link m xs) takable;
+      numbers = λ car core link m xs g l x. lap-is car core link m xs g l x .2;
     }

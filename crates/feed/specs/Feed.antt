@@ -8,7 +8,8 @@ use lib.Dec.{ltb}
 use Rattle.pkt.specs.Answers.{Answer, refused, gives, mapped, mostUdp}
 use Rattle.pkt.specs.Written.{leaves}
 use Rattle.pkt.specs.Rfc768.{udpHeader, udpChecksum}
-use Rattle.ezpkt.specs.Build.{udpHdr, udpPacket}
+use Rattle.ezpkt.specs.Build.{unmarked, udpHdr, udpPacket}
+use Rattle.ezpkt.specs.declared.Marks.{Marks}
 use Rattle.ezpkt.specs.declared.SocketAddrV4.{SocketAddrV4}
 use Rattle.ezpkt.specs.declared.ip4.Template.{Template}
 use Rattle.ezpkt.specs.declared.build.UdpDatagram.{UdpDatagram}
@@ -23,11 +24,15 @@ use Rattle.feed.specs.Cutting.{cutFor}
 
 -- "It takes a car's address and port, the core's, a link size .., numbers the datagrams by identification from 0"
 abbrev pub newFeed : SocketAddrV4 → SocketAddrV4 → ℕ → Feed
-newFeed car core link = record { car = car; core = core; link = link; id = 0 }
+newFeed car core link = record { car = car; core = core; link = link; id = 0; marks = unmarked }
+
+-- Document 02, T-12: every packet of a frame carries the feed's TOS and TTL
+abbrev pub feedMarked : Feed → Marks → Feed
+feedMarked f m = record { car = f .car; core = f .core; link = f .link; id = f .id; marks = m }
 
 -- ".. modulo 65,536"
 abbrev pub nextFeed : Feed → Feed
-nextFeed f = record { car = f .car; core = f .core; link = f .link; id = (f .id + 1) % 65536 }
+nextFeed f = record { car = f .car; core = f .core; link = f .link; id = (f .id + 1) % 65536; marks = f .marks }
 
 -- "24 for a link size outside the range": "28 to 65,535"
 abbrev pub leastLink : ℕ
@@ -49,21 +54,22 @@ frameDgram f =
       dport = f .core .port;
       «frag_off» = 0;
       csum = true;
+      marks = f .marks;
     }
 
 -- what is cut: its UDP header, and the telemetry b behind it
 unfoldable pub payloadOf : Feed → List ℕ → List ℕ
 payloadOf f b = udpHeader (udpHdr (frameDgram f) (length b)) (udpChecksum (f .car .ip) (f .core .ip) (udpHdr (frameDgram f) (length b)) b) ++ b
 
--- what every piece says in its header: TOS 0, the identification, no DF and no reserved bit, TTL 64, UDP
+-- what every piece says in its header: TOS and TTL, the identification, no DF and no reserved bit, UDP
 abbrev pub templateOf : Feed → Template
 templateOf f =
     record {
-      tos = 0;
+      tos = f .marks .tos;
       id = f .id;
       df = false;
       evil = false;
-      ttl = 64;
+      ttl = f .marks .ttl;
       protocol = 17;
       saddr = f .car .ip;
       daddr = f .core .ip;

@@ -1,4 +1,5 @@
 // The lap feed: telemetry frames of one car, each a UDP datagram, cut for a link and written as records of a capture.
+use ezpkt::Marks;
 use ezpkt::SocketAddrV4;
 use ezpkt::build;
 use ezpkt::build::Built;
@@ -18,19 +19,20 @@ ghost use Rattle.ezpkt.specs.Build.{packetOf, udpPacket};
 ghost use Rattle.ezpkt.specs.Ip4.{fragmentOf};
 ghost use Rattle.pcap.specs.Answers.{capturedSays, HeaderWritten};
 ghost use Rattle.pcap.specs.Pcap.{recordBytes};
-ghost use Rattle.feed.specs.Feed.{newFeed, nextFeed, badLink, frameDgram, templateOf, feedAnswer, Feeds};
+ghost use Rattle.feed.specs.Feed.{newFeed, feedMarked, nextFeed, badLink, frameDgram, templateOf, feedAnswer, Feeds};
 ghost use Rattle.feed.specs.Steps.{recordLong, PieceAsks, AllAsks, recordsFrom};
 
 const LEAST_LINK: u32 = 28;
 
 const MOST_LINK: u32 = 65535;
 
-// The feed of one car: the two ends, the link's size, and the identification of the next datagram.
+// The feed of one car: the two ends, the link's size, the identification of the next datagram, and what every packet is marked with.
 pub struct Feed {
     pub car: SocketAddrV4,
     pub core: SocketAddrV4,
     pub link: u32,
     pub id: u16,
+    pub marks: Marks,
 }
 
 // What a frame left: the feed after it, and how many bytes and pieces were written.
@@ -55,7 +57,17 @@ pub fn new(car: SocketAddrV4, core: SocketAddrV4, link: u32) -> Feed
         core,
         link,
         id: 0,
+        marks: Marks::default(),
     }
+}
+
+// The feed with other marks on every packet from now on.
+pub fn marked(feed: Feed, marks: Marks) -> Feed
+    ensures { λ r. ⌜ r ≡ feedMarked feed marks ⌝ }
+{
+    let mut next = feed;
+    next.marks = marks;
+    next
 }
 
 // The capture's file header at the start of out.
@@ -68,14 +80,9 @@ pub fn begin(out: &mut [u8]) -> Captured
 fn next(feed: Feed) -> Feed
     ensures { λ r. ⌜ r ≡ nextFeed feed ⌝ }
 {
-    let car = feed.car;
-    let core = feed.core;
-    Feed {
-        car,
-        core,
-        link: feed.link,
-        id: std::num::wrapping_add_u16(feed.id, 1),
-    }
+    let mut next = feed;
+    next.id = std::num::wrapping_add_u16(feed.id, 1);
+    next
 }
 
 fn is_bad(link: u32) -> bool
@@ -115,12 +122,13 @@ fn template(feed: Feed) -> Template
 {
     let car = feed.car;
     let core = feed.core;
+    let marks = feed.marks;
     Template {
-        tos: 0,
+        tos: marks.tos,
         id: feed.id,
         df: false,
         evil: false,
-        ttl: 64,
+        ttl: marks.ttl,
         protocol: 17,
         saddr: car.ip,
         daddr: core.ip,
@@ -132,6 +140,7 @@ fn dgram(feed: Feed) -> UdpDatagram
 {
     let car = feed.car;
     let core = feed.core;
+    let marks = feed.marks;
     UdpDatagram {
         saddr: car.ip,
         daddr: core.ip,
@@ -139,6 +148,7 @@ fn dgram(feed: Feed) -> UdpDatagram
         dport: core.port,
         frag_off: 0,
         csum: true,
+        marks,
     }
 }
 

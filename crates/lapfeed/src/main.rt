@@ -118,8 +118,21 @@ fn run(setup: Setup)
 fn say_wanted() {
     io::write_all(
         STDERR_FILENO,
-        b"lapfeed wants four words, CAR:PORT CORE:PORT LINK FRAME-BYTES, as in: lapfeed 10.0.0.1:5000 10.0.0.2:6000 1500 3480 < telemetry > lap.pcap\nAn address is four numbers of 0 to 255, a port 0 to 65535, LINK 28 to 65535 and FRAME-BYTES 1 to 65507, in decimal and with no leading 0.\n",
+        b"lapfeed wants four words, CAR:PORT CORE:PORT LINK FRAME-BYTES, as in: lapfeed 10.0.0.1:5000 10.0.0.2:6000 1500 3480 < telemetry > lap.pcap\nor six, with TOS TTL behind these, which are 0 64 without them.\nAn address is four numbers of 0 to 255, a port 0 to 65535, LINK 28 to 65535, FRAME-BYTES 1 to 65507, and TOS and TTL 0 to 255, in decimal and with no leading 0.\n",
     );
+}
+
+// Reads the two words behind the first four, if they are there, and runs what all of them ask for.
+fn start(car: &[u8], core: &[u8], link: &[u8], size: &[u8]) {
+    let mut tos = [0u8; words::LONGEST];
+    let mut ttl = [0u8; words::LONGEST];
+    let a = os::arg(5, &mut tos);
+    let b = os::arg(6, &mut ttl);
+    let count = os::arg_count();
+    match setup::read_all(count, car, core, link, size, &tos[..a], &ttl[..b]) {
+        Words::Good(setup) => run(setup),
+        Words::Wrong => say_wanted(),
+    }
 }
 
 fn main() {
@@ -131,12 +144,5 @@ fn main() {
     let b = os::arg(2, &mut core);
     let c = os::arg(3, &mut link);
     let d = os::arg(4, &mut size);
-    if os::arg_count() != 5 {
-        say_wanted();
-        return;
-    }
-    match setup::read_words(&car[..a], &core[..b], &link[..c], &size[..d]) {
-        Words::Good(setup) => run(setup),
-        Words::Wrong => say_wanted(),
-    }
+    start(&car[..a], &core[..b], &link[..c], &size[..d]);
 }

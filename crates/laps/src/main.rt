@@ -2,6 +2,7 @@
 // the refused ones before it were answered.
 mod refused;
 
+use ezpkt::Marks;
 use ezpkt::SocketAddrV4;
 use ezpkt::part::back;
 use ezpkt::part::front;
@@ -70,15 +71,18 @@ fn twelve(bytes: &[u8]) {
 
 // The identification after 65,535 is 0.
 fn wrap(bytes: &[u8]) {
-    let sender = car(0x0a000106);
-    let feed = Feed {
-        car: sender,
-        core: CORE,
-        link: 28,
-        id: 65535,
-    };
+    let mut feed = feed::new(car(0x0a000106), CORE, 28);
+    feed.id = 65535;
     let next = send(feed, front(bytes, 1), 6, 0);
     send(next, front(bytes, 2), 6, 999999);
+}
+
+// Two frames with another type of service and time to live, the first in three pieces.
+fn marked(bytes: &[u8]) {
+    let plain = feed::new(car(0x0a000108), CORE, 60);
+    let feed = feed::marked(plain, Marks { tos: 184, ttl: 3 });
+    let next = send(feed, front(bytes, 100), 8, 0);
+    send(next, front(bytes, 12), 8, 4166);
 }
 
 fn header() {
@@ -96,6 +100,7 @@ fn run(bytes: &[u8]) {
     first(0x0a000105, 1500, front(bytes, 1473), 5);
     wrap(bytes);
     first(0x0a000107, 65535, front(bytes, 65507), 7);
+    marked(bytes);
     let numbers = refused::each(feed, bytes, front(bytes, 12));
     send(feed, &numbers, 4294967295, 0);
 }

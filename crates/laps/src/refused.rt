@@ -12,15 +12,8 @@ fn number(fed: Fed) -> u8 {
 
 // .. over another link, with room for any frame over a link of 65,535.
 fn over(feed: Feed, link: u32, bytes: &[u8], usec: u32) -> u8 {
-    let car = feed.car;
-    let core = feed.core;
-    let id = feed.id;
-    let other = Feed {
-        car,
-        core,
-        link,
-        id,
-    };
+    let mut other = feed;
+    other.link = link;
     let mut scratch = [0u8; 65535];
     let mut out = [0u8; 65551];
     number(feed::frame(other, bytes, 7, usec, &mut scratch, &mut out))

@@ -1,4 +1,5 @@
 // What lists of packets are made of.
+use ezpkt::Marks;
 use ezpkt::SocketAddrV4;
 use ezpkt::build;
 use ezpkt::build::Request;
@@ -32,6 +33,7 @@ fn segment(seq: u32, flags: u8) -> Request {
         ack: 0,
         flags,
         frag_off: 0,
+        marks: Marks::default(),
     })
 }
 

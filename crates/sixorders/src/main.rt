@@ -7,6 +7,7 @@ use assembly::Progress;
 use assembly::Rec;
 use assembly::Taken;
 use assembly::Total;
+use ezpkt::Marks;
 use ezpkt::build;
 use ezpkt::build::IcmpEcho;
 use ezpkt::build::Request;
@@ -157,6 +158,7 @@ fn segment(saddr: u32, frag_off: u16) -> [u8; 41] {
         ack: 0,
         flags: 0,
         frag_off,
+        marks: Marks::default(),
     });
     let mut out = [0u8; 41];
     build::build(request, b"!", &mut out);
@@ -284,6 +286,7 @@ fn ping() -> [u8; 52] {
         daddr: SERVER,
         reply: false,
         seq: 0,
+        marks: Marks::default(),
     });
     let mut out = [0u8; 52];
     build::build(request, b"a ping between two hosts", &mut out);
@@ -298,6 +301,7 @@ fn lap() -> [u8; 52] {
         dport: 80,
         frag_off: 0,
         csum: true,
+        marks: Marks::default(),
     });
     let mut out = [0u8; 52];
     build::build(request, b"a lap between two points", &mut out);

@@ -90,8 +90,8 @@ sequence-law w f cs g b r = countsAll w f cs g (begun w f) r (begins (seqOf w f)
 
 -- moving a side on by nothing
 kept : (f : TcpFlow) (s : Side) → seqOf s f < 4294967296 → advance s 0 f ≡ f
-kept f Client b = ap (λ (n : ℕ). record { cl = f .cl; sv = f .sv; «cl_seq» = n; «sv_seq» = f .«sv_seq» }) (sym (begins (f .«cl_seq») b))
-kept f Server b = ap (λ (n : ℕ). record { cl = f .cl; sv = f .sv; «cl_seq» = f .«cl_seq»; «sv_seq» = n }) (sym (begins (f .«sv_seq») b))
+kept f Client b = ap (λ (n : ℕ). record { cl = f .cl; sv = f .sv; «cl_seq» = n; «sv_seq» = f .«sv_seq»; marks = f .marks }) (sym (begins (f .«cl_seq») b))
+kept f Server b = ap (λ (n : ℕ). record { cl = f .cl; sv = f .sv; «cl_seq» = f .«cl_seq»; «sv_seq» = n; marks = f .marks }) (sym (begins (f .«sv_seq») b))
 
 pub nothing-consumed : NothingConsumed
 nothing-consumed =

@@ -8,7 +8,8 @@ use lib.Dec.{ltb, eqb}
 use Rattle.pkt.specs.Answers.{Answer, refused, gives, mostTcp}
 use Rattle.pkt.specs.Rfc9293.{tcpHeader, FIN, SYN, PSH, ACK}
 use Rattle.pkt.specs.Written.{written, Wrote}
-use Rattle.ezpkt.specs.Build.{tcpHdr, tcpPacket}
+use Rattle.ezpkt.specs.Build.{unmarked, tcpHdr, tcpPacket}
+use Rattle.ezpkt.specs.declared.Marks.{Marks}
 use Rattle.ezpkt.specs.declared.SocketAddrV4.{SocketAddrV4}
 use Rattle.ezpkt.specs.declared.build.TcpSegment.{TcpSegment}
 use Rattle.tcp4.specs.declared.TcpFlow.{TcpFlow}
@@ -22,7 +23,10 @@ use Rattle.tcp4.specs.declared.Sent.{Sent}
 use Rattle.tcp4.specs.declared.Sent.the-variants.{One, Two, Three, Refused}
 
 abbrev pub newTcpFlow : SocketAddrV4 → SocketAddrV4 → ℕ → ℕ → TcpFlow
-newTcpFlow cl sv c s = record { cl = cl; sv = sv; «cl_seq» = c; «sv_seq» = s }
+newTcpFlow cl sv c s = record { cl = cl; sv = sv; «cl_seq» = c; «sv_seq» = s; marks = unmarked }
+
+abbrev pub tcpMarked : TcpFlow → Marks → TcpFlow
+tcpMarked f m = record { cl = f .cl; sv = f .sv; «cl_seq» = f .«cl_seq»; «sv_seq» = f .«sv_seq»; marks = m }
 
 abbrev pub other : Side → Side
 other Client = Server
@@ -38,8 +42,8 @@ setIn flags bit = flags / bit % 2
 abbrev pub ackOf : ℕ → ℕ → ℕ
 ackOf flags n = cond (eqb (setIn flags ACK) 1) n 0
 
-abbrev pub segOf : SocketAddrV4 → SocketAddrV4 → ℕ → ℕ → ℕ → ℕ → TcpSegment
-segOf src dst snd rcv flags frag =
+abbrev pub segOf : Marks → SocketAddrV4 → SocketAddrV4 → ℕ → ℕ → ℕ → ℕ → TcpSegment
+segOf m src dst snd rcv flags frag =
     record {
       saddr = src .ip;
       daddr = dst .ip;
@@ -49,12 +53,13 @@ segOf src dst snd rcv flags frag =
       ack = ackOf flags rcv;
       flags = flags;
       «frag_off» = frag;
+      marks = m;
     }
 
 -- what a side sends next, with these flags: its own number, and the other's acknowledged
 abbrev pub segmentOf : TcpFlow → Side → ℕ → ℕ → TcpSegment
-segmentOf f Client flags frag = segOf (f .cl) (f .sv) (f .«cl_seq») (f .«sv_seq») flags frag
-segmentOf f Server flags frag = segOf (f .sv) (f .cl) (f .«sv_seq») (f .«cl_seq») flags frag
+segmentOf f Client flags frag = segOf (f .marks) (f .cl) (f .sv) (f .«cl_seq») (f .«sv_seq») flags frag
+segmentOf f Server flags frag = segOf (f .marks) (f .sv) (f .cl) (f .«sv_seq») (f .«cl_seq») flags frag
 
 -- payload bytes, SYN and FIN
 abbrev pub consumed : ℕ → ℕ → ℕ
@@ -62,8 +67,8 @@ consumed flags n = n + setIn flags SYN + setIn flags FIN
 
 -- "Every sequence number is taken modulo 4,294,967,296."
 abbrev pub advance : Side → ℕ → TcpFlow → TcpFlow
-advance Client k f = record { cl = f .cl; sv = f .sv; «cl_seq» = (f .«cl_seq» + k) % 4294967296; «sv_seq» = f .«sv_seq» }
-advance Server k f = record { cl = f .cl; sv = f .sv; «cl_seq» = f .«cl_seq»; «sv_seq» = (f .«sv_seq» + k) % 4294967296 }
+advance Client k f = record { cl = f .cl; sv = f .sv; «cl_seq» = (f .«cl_seq» + k) % 4294967296; «sv_seq» = f .«sv_seq»; marks = f .marks }
+advance Server k f = record { cl = f .cl; sv = f .sv; «cl_seq» = f .«cl_seq»; «sv_seq» = (f .«sv_seq» + k) % 4294967296; marks = f .marks }
 
 -- ---- several
 
@@ -164,7 +169,7 @@ oldOf (Is n) now = Is now
 oldOf Nothing now = Nothing
 
 abbrev pub popped : TcpFlow → Seq → Seq → TcpFlow
-popped f c s = record { cl = f .cl; sv = f .sv; «cl_seq» = setTo c (f .«cl_seq»); «sv_seq» = setTo s (f .«sv_seq») }
+popped f c s = record { cl = f .cl; sv = f .sv; «cl_seq» = setTo c (f .«cl_seq»); «sv_seq» = setTo s (f .«sv_seq»); marks = f .marks }
 
 -- "`push_state` answers the old number of each side it sets, and nothing for the other."
 abbrev pub pushed : TcpFlow → Seq → Seq → PushedState

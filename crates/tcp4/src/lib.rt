@@ -1,4 +1,5 @@
 // Segments and sequence state of a TCP flow.
+use ezpkt::Marks;
 use ezpkt::SocketAddrV4;
 use ezpkt::build;
 use ezpkt::build::Request;
@@ -14,7 +15,7 @@ ghost use Prim.Native.Nat.{_+_, _≤_};
 ghost use lib.ListN.{length, take, drop};
 ghost use Rattle.pkt.specs.Answers.{mostTcp};
 ghost use Rattle.pkt.specs.Rfc9293.{RST, PSH, ACK};
-ghost use Rattle.tcp4.specs.Tcp4.{newTcpFlow, consumed, ackOf, segOf, segmentOf, advance, other, emit, exchange, opening, closing, messageOf, SendsOne, Sends, setTo, oldOf, pushed, popped, headed};
+ghost use Rattle.tcp4.specs.Tcp4.{newTcpFlow, tcpMarked, consumed, ackOf, segOf, segmentOf, advance, other, emit, exchange, opening, closing, messageOf, SendsOne, Sends, setTo, oldOf, pushed, popped, headed};
 ghost use Rattle.tcp4.specs.declared.Side.the-variants.{Client, Server};
 
 const SYN_ACK: u8 = ipv4::TCP_SYN + ipv4::TCP_ACK;
@@ -28,13 +29,14 @@ pub enum Side {
     Server,
 }
 
-// The two ends, and the next sequence number of each.
+// The two ends, the next sequence number of each, and what every packet is marked with.
 #[repr(C)]
 pub struct TcpFlow {
     pub cl: SocketAddrV4,
     pub sv: SocketAddrV4,
     pub cl_seq: u32,
     pub sv_seq: u32,
+    pub marks: Marks,
 }
 
 // The flow afterOne one, two or three packets and where each packet ends, or the number of the refusal.
@@ -94,6 +96,7 @@ fn acked(flags: u8, number: u32) -> u32
 }
 
 fn seg(
+    marks: Marks,
     src: SocketAddrV4,
     dst: SocketAddrV4,
     snd_nxt: u32,
@@ -101,7 +104,7 @@ fn seg(
     flags: u8,
     frag_off: u16,
 ) -> TcpSegment
-    ensures { λ r. ⌜ r ≡ segOf src dst «snd_nxt» «rcv_nxt» flags «frag_off» ⌝ }
+    ensures { λ r. ⌜ r ≡ segOf marks src dst «snd_nxt» «rcv_nxt» flags «frag_off» ⌝ }
 {
     TcpSegment {
         saddr: src.ip,
@@ -112,6 +115,7 @@ fn seg(
         ack: acked(flags, rcv_nxt),
         flags,
         frag_off,
+        marks,
     }
 }
 
@@ -143,7 +147,17 @@ impl TcpFlow {
             sv,
             cl_seq,
             sv_seq,
+            marks: Marks::default(),
         }
+    }
+
+    // The flow with other marks on every packet from now on.
+    pub fn marked(self, marks: Marks) -> Self
+        ensures { λ r. ⌜ r ≡ tcpMarked self marks ⌝ }
+    {
+        let mut next = self;
+        next.marks = marks;
+        next
     }
 
     // The segment that a side sends next, with these flags.
@@ -152,9 +166,10 @@ impl TcpFlow {
     {
         let cl = self.cl;
         let sv = self.sv;
+        let marks = self.marks;
         match side {
-            Side::Client => seg(cl, sv, self.cl_seq, self.sv_seq, flags, frag_off),
-            Side::Server => seg(sv, cl, self.sv_seq, self.cl_seq, flags, frag_off),
+            Side::Client => seg(marks, cl, sv, self.cl_seq, self.sv_seq, flags, frag_off),
+            Side::Server => seg(marks, sv, cl, self.sv_seq, self.cl_seq, flags, frag_off),
         }
     }
 

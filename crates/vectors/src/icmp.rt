@@ -2,6 +2,7 @@
 use crate::fields;
 use crate::state;
 use crate::state::Now;
+use ezpkt::Marks;
 use ezpkt::icmp4::EchoSent;
 use ezpkt::icmp4::IcmpFlow;
 use ezpkt::part::back;
@@ -24,6 +25,7 @@ pub(crate) fn opened(now: Now, a: &[u8]) -> Now {
         sv,
         ping_seq: 0,
         pong_seq: 0,
+        marks: Marks::default(),
     };
     let mut next = now;
     next.icmp = flow;

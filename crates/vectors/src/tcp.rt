@@ -4,6 +4,7 @@ use crate::payload;
 use crate::state;
 use crate::state::Now;
 use crate::udp;
+use ezpkt::Marks;
 use ezpkt::part::back;
 use ezpkt::part::front;
 use tcp4::Header;
@@ -45,6 +46,7 @@ fn opened(now: Now, a: &[u8]) -> Now {
         sv,
         cl_seq: 0,
         sv_seq: 0,
+        marks: Marks::default(),
     };
     let mut asked = now;
     asked.tcp = ends;

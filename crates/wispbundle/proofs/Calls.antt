@@ -6,6 +6,7 @@ use Rattle.pkt.specs.Written.{Promise}
 use Rattle.ezpkt.specs.Answers.{builtSays}
 use Rattle.ezpkt.specs.Build.{Answered}
 use Rattle.ezpkt.specs.Udp4.{dgramOf}
+use Rattle.ezpkt.specs.declared.Marks.{Marks}
 use Rattle.ezpkt.specs.declared.SocketAddrV4.{SocketAddrV4}
 use Rattle.ezpkt.specs.declared.build.Built.{Built}
 use Rattle.ezpkt.specs.declared.build.Request.the-variants.{Udp}
@@ -38,10 +39,10 @@ pub tcp-sends : (f : TcpFlow) (es : List Emit) (o o′ : List ℕ) (s : Sent) (r
     → r ≡ tcpFor f (sentSays s) → Sends f es o s o′ → TcpSends f es o r o′
 tcp-sends f es o o′ s r e x = told-to (tcpFor f) e x
 
--- and of a datagram from a to b, where w are the choices that C made
-pub datagrams : (x : «wb_choices») (w : Choices) (a b : SocketAddrV4) (p o o′ : List ℕ) (k : Built) (r : «wb_length»)
-    → w ≡ choicesOf x → r ≡ lengthFor (builtSays k) → Answered (Udp (dgramOf a b w)) p o k o′ → Builds (Udp (dgramOf a b (choicesOf x))) p o r o′
-datagrams x w a b p o o′ k r q e y = told-to lengthFor e (rw q at y)
+-- and of a datagram from a to b with the marks m, where w are the choices that C made
+pub datagrams : (x : «wb_choices») (w : Choices) (m : Marks) (a b : SocketAddrV4) (p o o′ : List ℕ) (k : Built) (r : «wb_length»)
+    → w ≡ choicesOf x → r ≡ lengthFor (builtSays k) → Answered (Udp (dgramOf m a b w)) p o k o′ → Builds (Udp (dgramOf m a b (choicesOf x))) p o r o′
+datagrams x w m a b p o o′ k r q e y = told-to lengthFor e (rw q at y)
 
 -- what is told of an answer s that is this one, t
 pub tcp-told : (f : TcpFlow) (s t : Sent) (r : «wb_tcp_sent») → s ≡ t → r ≡ tcpFor f (sentSays t) → r ≡ tcpFor f (sentSays s)

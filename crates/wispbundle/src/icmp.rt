@@ -1,8 +1,9 @@
 // Echoes and replies of an ICMP flow. The answer hands the flow back, as a TCP call's does.
+use ezpkt::Marks;
 use ezpkt::icmp4::EchoSent;
 use ezpkt::icmp4::IcmpFlow;
 ghost use mathlib.Core.Path.{_≡_};
-ghost use Rattle.ezpkt.specs.Icmp4.{newIcmpFlow, echoSentSays, pingOf, pongOf, pinged, ponged};
+ghost use Rattle.ezpkt.specs.Icmp4.{newIcmpFlow, icmpMarked, echoSentSays, pingOf, pongOf, pinged, ponged};
 ghost use Rattle.wispbundle.specs.Answers.{icmpFor};
 ghost use Rattle.wispbundle.specs.Calls.{IcmpSends};
 
@@ -36,6 +37,13 @@ pub extern "C" fn wb_icmp_new(cl: u32, sv: u32) -> IcmpFlow
     ensures { λ r. ⌜ r ≡ newIcmpFlow cl sv ⌝ }
 {
     IcmpFlow::new(cl, sv)
+}
+
+#[no_mangle]
+pub extern "C" fn wb_icmp_marked(flow: IcmpFlow, marks: Marks) -> IcmpFlow
+    ensures { λ r. ⌜ r ≡ icmpMarked flow marks ⌝ }
+{
+    flow.marked(marks)
 }
 
 #[no_mangle]

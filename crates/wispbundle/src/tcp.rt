@@ -1,4 +1,5 @@
 // Calls of a TCP flow. The answer hands the flow back: the next one, or on a refusal the one that came in.
+use ezpkt::Marks;
 use ezpkt::SocketAddrV4;
 use tcp4::Header;
 use tcp4::PushedState;
@@ -9,7 +10,7 @@ ghost use mathlib.Core.Path.{_≡_};
 ghost use mathlib.Core.List.{[], _∷_};
 ghost use Prim.Native.Nat.{_+_};
 ghost use Rattle.pkt.specs.Rfc9293.{RST, PSH, ACK};
-ghost use Rattle.tcp4.specs.Tcp4.{newTcpFlow, sentSays, advance, emit, opening, closing, messageOf, popped, pushed, headed};
+ghost use Rattle.tcp4.specs.Tcp4.{newTcpFlow, tcpMarked, sentSays, advance, emit, opening, closing, messageOf, popped, pushed, headed};
 ghost use Rattle.tcp4.specs.declared.Side.the-variants.{Client, Server};
 ghost use Rattle.wispbundle.specs.Answers.{seqFrom, seqFor, pushedFor, tcpEnds, tcpFor};
 ghost use Rattle.wispbundle.specs.Calls.{TcpSends};
@@ -110,6 +111,13 @@ pub extern "C" fn wb_tcp_new(
     ensures { λ r. ⌜ r ≡ newTcpFlow cl sv «cl_seq» «sv_seq» ⌝ }
 {
     TcpFlow::new(cl, sv, cl_seq, sv_seq)
+}
+
+#[no_mangle]
+pub extern "C" fn wb_tcp_marked(flow: TcpFlow, marks: Marks) -> TcpFlow
+    ensures { λ r. ⌜ r ≡ tcpMarked flow marks ⌝ }
+{
+    flow.marked(marks)
 }
 
 #[no_mangle]

@@ -1,12 +1,13 @@
 // Datagrams of a UDP flow.
 use crate::lengths;
 use crate::lengths::wb_length;
+use ezpkt::Marks;
 use ezpkt::SocketAddrV4;
 use ezpkt::udp4::Choices;
 use ezpkt::udp4::SrcIp;
 use ezpkt::udp4::UdpFlow;
 ghost use mathlib.Core.Path.{_≡_};
-ghost use Rattle.ezpkt.specs.Udp4.{newUdpFlow, dgramOf};
+ghost use Rattle.ezpkt.specs.Udp4.{newUdpFlow, udpMarked, dgramOf};
 ghost use Rattle.ezpkt.specs.declared.build.Request.the-variants.{Udp};
 ghost use Rattle.wispbundle.specs.Answers.{sourceFor, choicesOf};
 ghost use Rattle.wispbundle.specs.Calls.{Builds};
@@ -44,13 +45,20 @@ pub extern "C" fn wb_udp_new(cl: SocketAddrV4, sv: SocketAddrV4) -> UdpFlow
 }
 
 #[no_mangle]
+pub extern "C" fn wb_udp_marked(flow: UdpFlow, marks: Marks) -> UdpFlow
+    ensures { λ r. ⌜ r ≡ udpMarked flow marks ⌝ }
+{
+    flow.marked(marks)
+}
+
+#[no_mangle]
 pub extern "C" fn wb_udp_client_dgram(
     flow: UdpFlow,
     bytes: &[u8],
     given: wb_choices,
     out: &mut [u8],
 ) -> wb_length
-    ensures { λ r. ⌜ Builds (Udp (dgramOf (flow .cl) (flow .sv) (choicesOf given))) (now (bytes .entry)) (now (out .entry)) r (now (out .exit)) ⌝ }
+    ensures { λ r. ⌜ Builds (Udp (dgramOf (flow .marks) (flow .cl) (flow .sv) (choicesOf given))) (now (bytes .entry)) (now (out .entry)) r (now (out .exit)) ⌝ }
 {
     lengths::built(flow.client_dgram(bytes, choices(given), out))
 }
@@ -62,7 +70,7 @@ pub extern "C" fn wb_udp_server_dgram(
     given: wb_choices,
     out: &mut [u8],
 ) -> wb_length
-    ensures { λ r. ⌜ Builds (Udp (dgramOf (flow .sv) (flow .cl) (choicesOf given))) (now (bytes .entry)) (now (out .entry)) r (now (out .exit)) ⌝ }
+    ensures { λ r. ⌜ Builds (Udp (dgramOf (flow .marks) (flow .sv) (flow .cl) (choicesOf given))) (now (bytes .entry)) (now (out .entry)) r (now (out .exit)) ⌝ }
 {
     lengths::built(flow.server_dgram(bytes, choices(given), out))
 }

@@ -1,5 +1,6 @@
 // Document 01's worked examples, and document 02's of UDP without checksum, run: each line is an example and what the
 // library answers.
+use ezpkt::Marks;
 use ezpkt::SocketAddrV4;
 use ezpkt::build;
 use ezpkt::build::Built;
@@ -157,6 +158,7 @@ fn syn_request() -> Request {
         ack: 0,
         flags: ipv4::TCP_SYN,
         frag_off: 0,
+        marks: Marks::default(),
     })
 }
 
@@ -187,6 +189,7 @@ fn udp_request(csum: bool) -> Request {
         dport: 2,
         frag_off: 0,
         csum,
+        marks: Marks::default(),
     })
 }
 

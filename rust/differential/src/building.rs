@@ -1,5 +1,6 @@
 //! Requests for one packet, beside packets of the Rust's headers and checksum functions.
 
+use crate::marks::put;
 use crate::run::{Compared, Run, expected};
 use pkt::Packet;
 use pkt::ipv4::{ip_csum_fold, ip_csum_partial, ip_hdr, ip_pseudo_hdr, proto, tcp_hdr};
@@ -28,7 +29,7 @@ fn rust_tcp(segment: &TcpSegment, payload: &[u8]) -> Vec<u8> {
     let header = ip_csum_partial(&at.as_bytes(&pkt));
     let sum = ip_csum_fold(pseudo + header + ip_csum_partial(payload));
     at.get_mut(&pkt).set_csum(sum);
-    pkt.to_vec()
+    put(segment.marks, pkt.to_vec())
 }
 
 pub fn tcp(run: &mut Run) -> Compared {
@@ -41,6 +42,7 @@ pub fn tcp(run: &mut Run) -> Compared {
         ack: run.rng.near_wrap(),
         flags: run.rng.u8(),
         frag_off: run.rng.u16(),
+        marks: run.mark(),
     };
     if (2..=MAX_TCP).contains(&size) && run.rng.once_in(16) {
         payload[..2].fill(0);
@@ -62,10 +64,10 @@ pub fn icmp(run: &mut Run) -> Compared {
     let payload = run.rng.bytes(size);
     let (cl, sv, reply) = (run.rng.addr(), run.rng.addr(), run.rng.flip());
     let mut flow = ezpkt::icmp4::IcmpFlow::new(cl, sv, true);
-    let room = run.room(28 + size);
+    let (room, marks) = (run.room(28 + size), run.mark());
     let rust = expected((size, MAX_ICMP), 0, (room, 28 + size), || match reply {
-        false => flow.echo(&payload).to_vec(),
-        true => flow.echo_reply(&payload).to_vec(),
+        false => put(marks, flow.echo(&payload).to_vec()),
+        true => put(marks, flow.echo_reply(&payload).to_vec()),
     });
     let (src, dst, echo) = match reply {
         false => (cl, sv, Echo::Request),
@@ -76,6 +78,7 @@ pub fn icmp(run: &mut Run) -> Compared {
         dst,
         echo,
         seq: 0,
+        marks,
     };
     run.writes_one("wb_build_icmp", room, rust, |out| {
         packet.build(&payload, out)

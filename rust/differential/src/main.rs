@@ -10,6 +10,7 @@ mod checking;
 mod damage;
 mod icmp;
 mod lists;
+mod marks;
 mod model;
 mod options;
 mod pieces;
@@ -28,7 +29,7 @@ use run::{Compared, Run};
 use std::process::ExitCode;
 use std::time::Instant;
 use wispbundle::sys::VERSION;
-use wispbundle::version;
+use wispbundle::{Marks, version};
 
 const SEED: u64 = 0x7769_7370;
 const CALLS: u64 = 1_000_000;
@@ -63,6 +64,7 @@ fn assemblies(run: &mut Run) -> Compared {
 
 fn one(run: &mut Run, seed: u64, case: u64) -> Compared {
     run.rng = Rng::of_case(seed, case);
+    run.marks = Marks::default();
     let kind = run.rng.pick(&KINDS);
     kind(run)
 }

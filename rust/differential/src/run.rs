@@ -1,15 +1,18 @@
 //! One run: what is drawn, what was compared so far, and the comparison itself.
 
+use crate::marks;
 use crate::rng::Rng;
 use std::collections::BTreeMap;
 use std::fmt::Debug;
-use wispbundle::Refusal;
+use wispbundle::{Marks, Refusal};
 
 /// What differed, in words.
 pub type Compared = Result<(), String>;
 
 pub struct Run {
     pub rng: Rng,
+    /// Those of the flow or the request that calls are made on.
+    pub marks: Marks,
     /// How often a call, by its name in the header, gave a status: 0, or the number of a refusal.
     pub calls: BTreeMap<(&'static str, u8), u64>,
     /// How often something was seen that has a line of its own.
@@ -25,6 +28,7 @@ impl Run {
     pub fn new() -> Self {
         Self {
             rng: Rng::of_case(0, 0),
+            marks: Marks::default(),
             calls: BTreeMap::new(),
             seen: BTreeMap::new(),
         }
@@ -39,8 +43,17 @@ impl Run {
         *self.seen.entry(what.into()).or_default() += 1;
     }
 
+    /// Draws the marks of a flow or a request.
+    pub fn mark(&mut self) -> Marks {
+        self.marks = marks::draw(&mut self.rng);
+        self.marks
+    }
+
     fn called(&mut self, name: &'static str, status: u8) {
         *self.calls.entry((name, status)).or_default() += 1;
+        if status == 0 && self.marks != Marks::default() {
+            self.saw(marks::line(name));
+        }
     }
 
     /// Counts a call that answers nothing; what it changed is compared elsewhere.

@@ -1,15 +1,16 @@
 //! What a run must have seen to count: every call of the archive, carried out and refused by every
 //! number that the documents give it, every answer that is no refusal, a piece that was refused for
-//! its protocol alone, and of headers with options all that `options` names.
+//! its protocol alone, of headers with options all that `options` names, and other marks than a new
+//! flow's in every call that `marks` names.
 
-use crate::options;
 use crate::run::Run;
+use crate::{marks, options};
 
 const HEADER: &str = include_str!("../../../include/wispbundle.h");
 
 /// The calls in the header's order, and the numbers that each can give. A call that takes no payload
 /// is never refused by 1, and one that takes no offset never by 2.
-const NUMBERS: [(&str, &[u8]); 42] = [
+const NUMBERS: [(&str, &[u8]); 45] = [
     ("wb_version", &[]),
     ("wb_ip_csum", &[1]),
     ("wb_build_tcp", &[1, 3]),
@@ -21,6 +22,7 @@ const NUMBERS: [(&str, &[u8]); 42] = [
     ("wb_datagram", &[1, 3]),
     ("wb_fragments", &[1, 2, 3]),
     ("wb_tcp_new", &[]),
+    ("wb_tcp_marked", &[]),
     ("wb_tcp_open", &[3]),
     ("wb_tcp_client_close", &[3]),
     ("wb_tcp_server_close", &[3]),
@@ -39,9 +41,11 @@ const NUMBERS: [(&str, &[u8]); 42] = [
     ("wb_tcp_push_state", &[]),
     ("wb_tcp_pop_state", &[]),
     ("wb_udp_new", &[]),
+    ("wb_udp_marked", &[]),
     ("wb_udp_client_dgram", &[1, 3, 22]),
     ("wb_udp_server_dgram", &[1, 3, 22]),
     ("wb_icmp_new", &[]),
+    ("wb_icmp_marked", &[]),
     ("wb_icmp_echo", &[1, 3]),
     ("wb_icmp_echo_reply", &[1, 3]),
     ("wb_check", &[4, 5, 6, 7, 12, 13, 14, 15, 18]),
@@ -93,7 +97,9 @@ pub fn faults(run: &Run) -> Vec<String> {
     let owed: Vec<_> = NUMBERS.iter().flat_map(statuses).collect();
     let made = owed.iter().filter(|call| !run.calls.contains_key(call));
     let other = run.calls.keys().filter(|call| !owed.contains(call));
+    let marked = NUMBERS.iter().filter(|(call, _)| marks::are_handed(call));
     let lines = ANSWERS.map(String::from).into_iter().chain(options::owed());
+    let lines = lines.chain(marked.map(|(call, _)| marks::line(call)));
     let given = lines.filter(|what| !run.seen.contains_key(what));
     let mut faults: Vec<_> = made
         .map(|call| format!("never seen: {}", words(call)))

@@ -1,23 +1,24 @@
 //! TCP flows beside the Rust's, several calls on each.
 
+use crate::marks::put;
 use crate::run::{Compared, Run, expected};
 use pkt::Packet;
 use vectors::MAX_TCP;
-use wispbundle::{Refusal, TcpFlow};
+use wispbundle::{Marks, Refusal, TcpFlow};
 
 struct Pair {
     ours: TcpFlow,
     rust: ezpkt::tcp4::TcpFlow,
 }
 
-fn three(packets: Vec<Packet>) -> [Vec<u8>; 3] {
-    let bytes: Vec<_> = packets.iter().map(Packet::to_vec).collect();
+fn three(marks: Marks, packets: Vec<Packet>) -> [Vec<u8>; 3] {
+    let bytes: Vec<_> = packets.iter().map(|p| put(marks, p.to_vec())).collect();
     bytes.try_into().expect("three packets")
 }
 
 /// A packet and the acknowledgment behind it, which may be missing.
-fn message(packets: Vec<Packet>) -> [Vec<u8>; 2] {
-    let mut bytes = packets.iter().map(Packet::to_vec);
+fn message(marks: Marks, packets: Vec<Packet>) -> [Vec<u8>; 2] {
+    let mut bytes = packets.iter().map(|p| put(marks, p.to_vec()));
     [
         bytes.next().expect("one packet"),
         bytes.next().unwrap_or_default(),
@@ -34,26 +35,38 @@ impl Pair {
             sv,
             cl_seq,
             sv_seq,
+            marks: Marks::default(),
         };
         run.same("wb_tcp_new", Ok(ours), Ok(given))?;
         let rust = ezpkt::tcp4::TcpFlow::new(cl, sv, cl_seq, sv_seq, true);
         Ok(Self { ours, rust })
     }
 
-    /// Compares both numbers, and that nothing else of either flow has changed.
-    fn same_state(&mut self) -> Compared {
+    /// Marks the flow anew.
+    fn mark(&mut self, run: &mut Run) -> Compared {
+        let (before, marks) = (self.ours, run.mark());
+        self.ours = before.marked(marks);
+        run.same(
+            "wb_tcp_marked",
+            Ok(self.ours),
+            Ok(TcpFlow { marks, ..before }),
+        )
+    }
+
+    /// Compares both numbers and the marks, and that nothing else of either flow has changed.
+    fn same_state(&mut self, marks: Marks) -> Compared {
         let ours = self.ours;
         let same = ezpkt::tcp4::TcpFlow::new(ours.cl, ours.sv, ours.cl_seq, ours.sv_seq, true);
-        match self.rust == same {
+        match self.rust == same && ours.marks == marks {
             true => Ok(()),
-            false => Err(format!("tcp: {ours:?} and not {:?}", self.rust)),
+            false => Err(format!("tcp: {ours:?} and not {:?}, {marks:?}", self.rust)),
         }
     }
 
     fn handshake(&mut self, run: &mut Run) -> Compared {
-        let room = run.room(120);
+        let (room, marks) = (run.room(120), run.marks);
         let fits = |rust: &mut dyn FnMut() -> Vec<Packet>| {
-            expected((0, 0), 0, (room, 120), || three(rust()))
+            expected((0, 0), 0, (room, 120), || three(marks, rust()))
         };
         let (ours, rust) = (&mut self.ours, &mut self.rust);
         match run.rng.below(3) {
@@ -77,8 +90,8 @@ impl Pair {
     }
 
     fn bare(&mut self, run: &mut Run) -> Compared {
-        let room = run.room(40);
-        let fits = |rust: Packet| expected((0, 0), 0, (room, 40), || rust.to_vec());
+        let (room, marks) = (run.room(40), run.marks);
+        let fits = |rust: Packet| expected((0, 0), 0, (room, 40), || put(marks, rust.to_vec()));
         let (ours, rust) = (&mut self.ours, &self.rust);
         match run.rng.below(4) {
             0 => run.writes_one(
@@ -114,11 +127,11 @@ impl Pair {
         let (room, server) = (run.room(n), run.rng.flip());
         let (ours, rust) = (&mut self.ours, &mut self.rust);
         let packet = expected((size, MAX_TCP), 0, (room, n), || {
-            Packet::from(match server {
+            let segment = Packet::from(match server {
                 false => rust.client_data_segment(&payload),
                 true => rust.server_data_segment(&payload),
-            })
-            .to_vec()
+            });
+            put(run.marks, segment.to_vec())
         });
         match server {
             false => run.writes_one("wb_tcp_client_data_segment", room, packet, |out| {
@@ -137,10 +150,11 @@ impl Pair {
         let (room, field) = (run.room(n), run.rng.u16());
         let (ours, rust) = (&mut self.ours, &mut self.rust);
         let packets = expected((size, MAX_TCP), 0, (room, n), || {
-            message(match server {
+            let packets = match server {
                 false => rust.client_message(&payload, ack, field),
                 true => rust.server_message(&payload, ack, field),
-            })
+            };
+            message(run.marks, packets)
         });
         let ends = |m: wispbundle::Message| [m.end, m.ack_end.unwrap_or(m.end)];
         match server {
@@ -193,15 +207,19 @@ impl Pair {
 
 pub fn compare(run: &mut Run) -> Compared {
     let mut pair = Pair::draw(run)?;
+    if run.rng.flip() {
+        pair.mark(run)?;
+    }
     for _ in 0..1 + run.rng.below(8) {
-        match run.rng.below(5) {
+        match run.rng.below(6) {
             0 => pair.handshake(run)?,
             1 => pair.bare(run)?,
             2 => pair.segment(run)?,
             3 => pair.message(run)?,
-            _ => pair.without_packets(run)?,
+            4 => pair.without_packets(run)?,
+            _ => pair.mark(run)?,
         }
-        pair.same_state()?;
+        pair.same_state(run.marks)?;
     }
     Ok(())
 }

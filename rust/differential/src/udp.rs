@@ -1,11 +1,12 @@
 //! UDP datagrams, as a flow's and as a request, beside the Rust's flow. One without checksum, which
 //! the Rust builds, must be refused by 22.
 
+use crate::marks::put;
 use crate::run::{Compared, Run, expected};
 use pkt::Packet;
 use std::net::SocketAddrV4;
 use vectors::MAX_UDP;
-use wispbundle::{Choices, Refusal, UdpDatagram, UdpFlow};
+use wispbundle::{Choices, Marks, Refusal, UdpDatagram, UdpFlow};
 
 /// The datagram with its checksum.
 fn rust_dgram(flow: &UdpFlow, server: bool, payload: &[u8], choices: Choices) -> Vec<u8> {
@@ -18,7 +19,7 @@ fn rust_dgram(flow: &UdpFlow, server: bool, payload: &[u8], choices: Choices) ->
         dgram = dgram.srcip(src);
     }
     dgram = dgram.frag_off(choices.frag_off).csum();
-    Packet::from(dgram).to_vec()
+    put(flow.marks, Packet::from(dgram).to_vec())
 }
 
 /// The request for the same datagram.
@@ -33,16 +34,28 @@ fn request(flow: &UdpFlow, server: bool, choices: Choices) -> UdpDatagram {
         dst,
         frag_off: choices.frag_off,
         csum: choices.csum,
+        marks: flow.marks,
     }
+}
+
+/// A flow, which is new or marked.
+fn draw(run: &mut Run) -> Result<UdpFlow, String> {
+    let (cl, sv, marks) = (run.rng.socket(), run.rng.socket(), Marks::default());
+    let new = UdpFlow::new(cl, sv);
+    run.same("wb_udp_new", Ok(new), Ok(UdpFlow { cl, sv, marks }))?;
+    if run.rng.once_in(4) {
+        return Ok(new);
+    }
+    let marks = run.mark();
+    let flow = new.marked(marks);
+    run.same("wb_udp_marked", Ok(flow), Ok(UdpFlow { cl, sv, marks }))?;
+    Ok(flow)
 }
 
 pub fn compare(run: &mut Run) -> Compared {
     let size = run.rng.size(MAX_UDP);
     let mut payload = run.rng.bytes(size);
-    let (cl, sv) = (run.rng.socket(), run.rng.socket());
-    let flow = UdpFlow::new(cl, sv);
-    run.same("wb_udp_new", Ok(flow), Ok(UdpFlow { cl, sv }))?;
-    let server = run.rng.flip();
+    let (flow, server) = (draw(run)?, run.rng.flip());
     let choices = Choices {
         srcip: run.rng.flip().then_some(run.rng.addr()),
         frag_off: if run.rng.flip() { run.rng.u16() } else { 0 },
