@@ -25,3 +25,4 @@ pub mod Expected
 pub mod Reporting
 pub mod Options
 pub mod Marks
+pub mod WrongWord

@@ -18,4 +18,5 @@ pub mod Plans
 pub mod Mending
 pub mod Options
 pub mod Marks
+pub mod WrongWord
 pub mod Reporting

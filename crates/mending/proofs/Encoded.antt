@@ -175,7 +175,7 @@ module _ (p : List ℕ) (c : ℕ) where
   unfolding partSum readOf udpChecksum
   udp-sum-is h u = rw (udp-size u, udp-renewed u 0)
 
-  udp-len : (u : «udp_hdr») → u .len < 65536 → u .len ≡ 8 + length p → fieldAt (udpHeader u c ++ p) 4 2 ≡ length (udpHeader u c ++ p)
+  pub udp-len : (u : «udp_hdr») → u .len < 65536 → u .len ≡ 8 + length p → fieldAt (udpHeader u c ++ p) 4 2 ≡ length (udpHeader u c ++ p)
   unfolding fieldAt udpHeader widths
   udp-len u few len = field-at (take 2 (udpFields u c)) (field 2 (u .len)) (drop 3 (udpFields u c)) p ∙ omega (arith, udp-size u)
 

@@ -23,7 +23,7 @@ pub renewed-length : (i x : ℕ) (l : List ℕ) → length (renewed i x l) ≡ l
 unfolding renewed
 renewed-length i x l = simp length-set
 
-set-bytes : (l : List ℕ) (i a : ℕ) → Bytes l → a < 256 → Bytes (set l i a)
+pub set-bytes : (l : List ℕ) (i a : ℕ) → Bytes l → a < 256 → Bytes (set l i a)
 set-bytes [] i a b h j = b j
 set-bytes (x ∷ l) zero a b h zero = h
 set-bytes (x ∷ l) zero a b h (suc j) = b (suc j)
@@ -72,7 +72,7 @@ drop-within n i x l =
     ∙ drop-set-add n (set l (n + i) (x / 256 % 256)) (i + 1) (x % 256)
     ∙ ap (λ (m : List ℕ). set m (i + 1) (x % 256)) (drop-set-add n l i (x / 256 % 256))
 
-set-behind : (p l : List ℕ) (i a : ℕ) → set (p ++ l) (length p + i) a ≡ p ++ set l i a
+pub set-behind : (p l : List ℕ) (i a : ℕ) → set (p ++ l) (length p + i) a ≡ p ++ set l i a
 set-behind [] l i a = ap (λ (k : ℕ). set l k a) (omega arith)
 set-behind (x ∷ p) l i a =
     let e : suc (length p) + i ≡ suc (length p + i) = omega arith in

@@ -27,7 +27,7 @@ unfolding total
 two-total x r h = omega arith
 
 -- The plain sum grows by the number.
-renewed-total : (i x : ℕ) (l : List ℕ) → i % 2 ≡ 0 → i + 2 ≤ length l → x < 65536 → total (renewed i x l) ≡ total (renewed i 0 l) + x
+pub renewed-total : (i x : ℕ) (l : List ℕ) → i % 2 ≡ 0 → i + 2 ≤ length l → x < 65536 → total (renewed i x l) ≡ total (renewed i 0 l) + x
 renewed-total i x l even h few =
     let front : length (take i l) ≡ i = length-take-le i l (omega arith) in
     let here : length (take i l) % 2 ≡ 0 = ap (λ (n : ℕ). n % 2) front ∙ even in
@@ -63,7 +63,7 @@ without i l even h b some =
     ∙ sym (checksum-total (renewed i 0 l) (renewed-bytes i 0 l b))
 
 -- Bytes of which one is not 0 have a positive sum.
-some-total : (l : List ℕ) (i : ℕ) → 0 < getD l i 0 → 0 < total l
+pub some-total : (l : List ℕ) (i : ℕ) → 0 < getD l i 0 → 0 < total l
 unfolding total
 some-total [] i h = absurd (omega arith)
 some-total (a ∷ []) zero h = omega arith
@@ -90,7 +90,7 @@ without-header l h b e =
 
 -- ---- behind a pseudo header
 
-some-behind : (s d p n : ℕ) (l : List ℕ) → 0 < p → p < 256 → 0 < total (pseudo s d p n ++ l)
+pub some-behind : (s d p n : ℕ) (l : List ℕ) → 0 < p → p < 256 → 0 < total (pseudo s d p n ++ l)
 unfolding pseudo
 some-behind s d p n l some few =
     let here : 0 < p % 256 = omega arith in
@@ -98,15 +98,15 @@ some-behind s d p n l some few =
 
 -- A place behind the twelve bytes is one of them all.
 module _ (s d p n i : ℕ) (l : List ℕ) where
-  behind-place : (x : ℕ) → pseudo s d p n ++ renewed i x l ≡ renewed (12 + i) x (pseudo s d p n ++ l)
+  pub behind-place : (x : ℕ) → pseudo s d p n ++ renewed i x l ≡ renewed (12 + i) x (pseudo s d p n ++ l)
   unfolding pseudo
   behind-place x = sym (renewed-behind (pseudo s d p n) l i x)
 
-  behind-field : fieldAt l i 2 ≡ fieldAt (pseudo s d p n ++ l) (12 + i) 2
+  pub behind-field : fieldAt l i 2 ≡ fieldAt (pseudo s d p n ++ l) (12 + i) 2
   unfolding pseudo
   behind-field = field-drop i 2 12 (pseudo s d p n ++ l)
 
-  behind-within : i + 2 ≤ length l → 12 + i + 2 ≤ length (pseudo s d p n ++ l)
+  pub behind-within : i + 2 ≤ length l → 12 + i + 2 ≤ length (pseudo s d p n ++ l)
   unfolding pseudo
   behind-within h = omega arith
 
