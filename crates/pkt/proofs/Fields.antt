@@ -1,5 +1,5 @@
 -- Laws of numbers in bytes, each over the width.
-use Rattle.std.proofs.Common.{◌≡◌, ℕ, zero, suc, ◌+◌, ◌*◌, ◌/◌, ◌%◌, ◌^◌, ◌<◌, List, [], ◌∷◌, ◌++◌, length, take, drop, sym, refl, ap, ◌∙◌, ap₂, append_assoc, pow-suc, arith, length-append, take_at, drop_at}
+use Rattle.std.proofs.Common.{◌≡◌, ℕ, zero, suc, ◌+◌, ◌*◌, ◌/◌, ◌%◌, ◌^◌, ◌<◌, List, [], ◌∷◌, ◌++◌, length, sym, refl, ap, ◌∙◌, ap₂, append_assoc, pow-suc, arith, length-append, take_at, drop_at}
 use native.Mathlib.Nat.{one-le-pow}
 use lib.Arith.{mod-mul}
 use Rattle.pkt.specs.Fields.{be, value, Field, fields, Bytes, widths, ReadBack}

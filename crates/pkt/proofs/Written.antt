@@ -2,6 +2,7 @@
 use Rattle.std.proofs.Common.{◌≡◌, ℕ, zero, suc, ◌+◌, ◌-◌, ◌<◌, ◌≤◌, List, [], ◌∷◌, ◌++◌, length, get_or, take, drop, set, sym, refl, ap, ◌∙◌, append_assoc, append-nil, le_of_suc-le-suc, add-one, arith, length-append, length-drop, drop-drop, take_at, drop_at}
 use lib.Seq.{take-length}
 use borrow.Rule.Slice.PartMut.{mid_of, put_mid}
+use Rattle.std.proofs.lemmas.List.{take_all, drop_all, length-take-le}
 use Rattle.pkt.specs.Written.{written}
 use Rattle.pkt.proofs.Parts.{mid_tail, post_tail}
 
@@ -10,9 +11,18 @@ pub copy_done : (s d : List ℕ) (i : ℕ) → i ≡ length s → take i s ++ dr
 unfolding written
 copy_done s d i e = rw (e, take-length)
 
--- what the kit's copy leaves
-pub copy_written : (s d : List ℕ) → take (length s) s ++ drop (length s) d ≡ written s d
-copy_written s d = copy_done s d (length s) refl
+-- what `copy` leaves, where there is room
+pub copy_written : (s d : List ℕ) → length s ≤ length d → written (take (length d) s) d ≡ written s d
+copy_written s d h = ap (λ (l : List ℕ). written l d) (take_all (length d) s h)
+
+pub copy_whole : (s d e : List ℕ) → length s ≤ length d → e ≡ s → e ++ drop (length s) d ≡ written (take (length d) s) d
+unfolding written
+copy_whole s d e h is = rw (take_all (length d) s h, is) refl
+
+-- .. and where there is not
+pub copy_cut : (s d e : List ℕ) → length d ≤ length s → e ≡ take (length d) s → e ≡ written (take (length d) s) d
+unfolding written
+copy_cut s d e h is = rw (is, length-take-le (length d) s h, drop_all (length d) d (omega arith), append-nil) refl
 
 pub written_length : (a d : List ℕ) → length a ≤ length d → length (written a d) ≡ length d
 unfolding written

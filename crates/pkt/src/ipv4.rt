@@ -28,14 +28,14 @@ pub mod flags {
 }
 
 // A checksum, or the number of the refusal.
-#[derive(Drop)]
+#[derive(Clone, Copy, Drop)]
 pub enum Sum {
     Is(u16),
     Refused(u8),
 }
 
 // What an IPv4 header says. The first byte is 0x45, and the checksum is worked out.
-#[derive(Drop)]
+#[derive(Clone, Copy, Drop)]
 pub struct ip_hdr {
     pub tos: u8,
     pub tot_len: u16,
@@ -119,7 +119,7 @@ pub const TCP_ECE: u8 = 0x40;
 pub const TCP_CWR: u8 = 0x80;
 
 // What a TCP header says. The data offset byte is 0x50, the window 65,535 and the urgent pointer 0.
-#[derive(Drop)]
+#[derive(Clone, Copy, Drop)]
 pub struct tcp_hdr {
     pub sport: u16,
     pub dport: u16,
@@ -172,7 +172,7 @@ impl tcp_hdr {
 }
 
 // What a UDP header says.
-#[derive(Drop)]
+#[derive(Clone, Copy, Drop)]
 pub struct udp_hdr {
     pub sport: u16,
     pub dport: u16,
@@ -257,14 +257,14 @@ pub const ICMP_PREC_VIOLATION: u8 = 14;
 pub const ICMP_PREC_CUTOFF: u8 = 15;
 
 // What an ICMP header says, but for the checksum.
-#[derive(Drop)]
+#[derive(Clone, Copy, Drop)]
 pub struct icmp_hdr {
     pub typ: u8,
     pub code: u8,
 }
 
 // What follows it in an echo.
-#[derive(Drop)]
+#[derive(Clone, Copy, Drop)]
 pub struct icmp_echo_hdr {
     pub id: u16,
     pub seq: u16,
@@ -322,7 +322,7 @@ fn address(addr: u32) -> u16
 }
 
 // What goes before a transport header in its checksum.
-#[derive(Drop)]
+#[derive(Clone, Copy, Drop)]
 struct ip_pseudo_hdr {
     src: u32,
     dst: u32,
