@@ -11,7 +11,7 @@ use pkt::{limit, refusal};
 
 // A TCP segment between two addresses and ports.
 #[repr(C)]
-#[derive(Drop)]
+#[derive(Clone, Copy, Drop)]
 pub struct TcpSegment {
     pub saddr: u32,
     pub daddr: u32,
@@ -41,7 +41,7 @@ impl TcpSegment {
 
 // A UDP datagram between two addresses and ports. One for which no checksum is asked is refused.
 #[repr(C)]
-#[derive(Drop)]
+#[derive(Clone, Copy, Drop)]
 pub struct UdpDatagram {
     pub saddr: u32,
     pub daddr: u32,
@@ -54,7 +54,7 @@ pub struct UdpDatagram {
 
 // An ICMP echo, or the reply to one, with its number.
 #[repr(C)]
-#[derive(Drop)]
+#[derive(Clone, Copy, Drop)]
 pub struct IcmpEcho {
     pub saddr: u32,
     pub daddr: u32,
@@ -65,14 +65,14 @@ pub struct IcmpEcho {
 
 // A piece of an IPv4 payload: len blocks of 8 bytes from block off.
 #[repr(C)]
-#[derive(Drop)]
+#[derive(Clone, Copy, Drop)]
 pub struct IpPiece {
     pub template: Template,
     pub off: u16,
     pub len: u16,
 }
 
-#[derive(Drop)]
+#[derive(Clone, Copy, Drop)]
 pub enum Request {
     Tcp(TcpSegment),
     Udp(UdpDatagram),
@@ -81,7 +81,7 @@ pub enum Request {
 }
 
 // The length of the packet that was built, or the number of the refusal.
-#[derive(Drop)]
+#[derive(Clone, Copy, Drop)]
 pub enum Built {
     Packet(usize),
     Refused(u8),

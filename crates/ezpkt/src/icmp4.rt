@@ -8,7 +8,7 @@ use crate::{Marks, build};
 
 // The two addresses, the numbers of the next echo and of the next reply, which count apart, and what every packet is marked with.
 #[repr(C)]
-#[derive(Drop)]
+#[derive(Clone, Copy, Drop)]
 pub struct IcmpFlow {
     pub cl: u32,
     pub sv: u32,
@@ -18,7 +18,7 @@ pub struct IcmpFlow {
 }
 
 // The flow after a packet and the packet's length, or the number of the refusal.
-#[derive(Drop)]
+#[derive(Clone, Copy, Drop)]
 pub enum EchoSent {
     Packet(IcmpFlow, usize),
     Refused(u8),

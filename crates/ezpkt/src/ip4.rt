@@ -8,7 +8,7 @@ use crate::{build, write};
 
 // What every piece of a payload says in its header.
 #[repr(C)]
-#[derive(Drop)]
+#[derive(Clone, Copy, Drop)]
 pub struct Template {
     pub tos: u8,
     pub id: u16,

@@ -1,4 +1,6 @@
 // Packets from requests, and from flows that keep their numbers.
+#![tactic(auto)]
+
 pub mod build;
 pub mod icmp4;
 pub mod ip4;
@@ -13,7 +15,7 @@ use pkt::ipv4::ip_hdr;
 
 // An address and a port.
 #[repr(C)]
-#[derive(Drop)]
+#[derive(Clone, Copy, Drop)]
 pub struct SocketAddrV4 {
     pub ip: u32,
     pub port: u16,
@@ -21,7 +23,7 @@ pub struct SocketAddrV4 {
 
 // What the packets of a flow are marked with: the type of service, and the time to live.
 #[repr(C)]
-#[derive(Drop)]
+#[derive(Clone, Copy, Drop)]
 pub struct Marks {
     pub tos: u8,
     pub ttl: u8,

@@ -9,7 +9,7 @@ use crate::{Marks, SocketAddrV4, build, part};
 
 // The two ends, and what every packet is marked with.
 #[repr(C)]
-#[derive(Drop)]
+#[derive(Clone, Copy, Drop)]
 pub struct UdpFlow {
     pub cl: SocketAddrV4,
     pub sv: SocketAddrV4,
@@ -17,14 +17,14 @@ pub struct UdpFlow {
 }
 
 // Another source address than the flow's, or none.
-#[derive(Drop)]
+#[derive(Clone, Copy, Drop)]
 pub enum SrcIp {
     Own,
     Other(u32),
 }
 
 // The choices that go with a datagram: source address, flags and offset, checksum.
-#[derive(Drop)]
+#[derive(Clone, Copy, Drop)]
 pub struct Choices {
     pub srcip: SrcIp,
     pub frag_off: u16,

@@ -8,6 +8,7 @@ ghost use Rattle.ezpkt.specs.declared.build.Request.TheVariants.{Piece};
 
 use crate::Marks;
 use crate::build::{IcmpEcho, IpPiece, Request, TcpSegment, UdpDatagram};
+use pkt::copying::copy;
 use pkt::ipv4;
 use pkt::ipv4::{Sum, icmp_echo_hdr, icmp_hdr, ip_hdr, udp_hdr};
 
@@ -16,7 +17,7 @@ fn put(src: &[u8], dst: &mut [u8])
     requires { length src.now ≤ length dst.old }
     ensures { dst.new ≡ written src.now dst.old }
 {
-    bytes::copy(src, dst);
+    copy(src, dst);
 }
 
 // An IPv4 header, a transport header and a payload, end to end.
@@ -129,7 +130,7 @@ fn echo(e: IcmpEcho, payload: &[u8], out: &mut [u8])
 }
 
 // From which byte of a payload up to which a piece goes.
-#[derive(Drop)]
+#[derive(Clone, Copy, Drop)]
 pub struct Span {
     pub start: usize,
     pub end: usize,

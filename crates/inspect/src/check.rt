@@ -11,7 +11,7 @@ use pkt::ipv4::proto;
 use pkt::{ipv4, refusal};
 
 // The kinds of whole packets. Bare is UDP with a checksum field of 0.
-#[derive(Drop)]
+#[derive(Clone, Copy, Drop)]
 pub enum Kind {
     Tcp,
     Udp,
@@ -20,21 +20,21 @@ pub enum Kind {
 }
 
 // A whole packet's header and kind, or the number of the refusal.
-#[derive(Drop)]
+#[derive(Clone, Copy, Drop)]
 pub enum Examined {
     Whole(IpRead, Kind),
     Refused(u8),
 }
 
 // The kind of a whole packet, or the number of the refusal.
-#[derive(Drop)]
+#[derive(Clone, Copy, Drop)]
 enum Found {
     Is(Kind),
     Refused(u8),
 }
 
 // What the check says of a packet, or the number of the refusal.
-#[derive(Drop)]
+#[derive(Clone, Copy, Drop)]
 pub enum Checked {
     Good,
     NoChecksum,
@@ -107,6 +107,7 @@ fn kind_of(protocol: u8, part: &[u8]) -> Kind
 }
 
 // The first step: what kind of packet a header and its data part are, and whether it is whole.
+#[tactic(auto, unfolding(crate::specs::Check::whole_answer))]
 fn whole(h: IpRead, part: &[u8]) -> Found
     ensures { found_says result ≡ whole_answer h part.now }
 {

@@ -9,7 +9,7 @@ use pkt::ipv4::{Sum, flags};
 use pkt::{ipv4, refusal};
 
 // What a packet's header says. Its data is the bytes from start, behind the options, up to, not including, end.
-#[derive(Drop)]
+#[derive(Clone, Copy, Drop)]
 pub struct IpRead {
     pub tos: u8,
     pub tot_len: u16,
@@ -27,7 +27,7 @@ pub struct IpRead {
 }
 
 // A packet's header, or the number of the refusal.
-#[derive(Drop)]
+#[derive(Clone, Copy, Drop)]
 pub enum Seen {
     Packet(IpRead),
     Refused(u8),

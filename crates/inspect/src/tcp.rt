@@ -8,7 +8,7 @@ use pkt::ipv4::tcp_hdr;
 use pkt::refusal;
 
 // What a TCP header says, or the number of the refusal.
-#[derive(Drop)]
+#[derive(Clone, Copy, Drop)]
 pub enum TcpSeen {
     Header(tcp_hdr),
     Refused(u8),

@@ -5,6 +5,7 @@ ghost use Rattle.packet.specs.Headroom.{placed};
 ghost use Rattle.packet.specs.Dump.{digit_of, numeral, digits_of, space, hexes, shown_of, left, right, line, lines, dump_bytes};
 
 use crate::put::fill;
+use pkt::copying::copy;
 
 // The digit of a number below 16.
 fn digit(d: usize) -> u8
@@ -102,7 +103,7 @@ fn put_left(pos: usize, l: &[u8], out: &mut [u8])
 {
     let n = l.len();
     put_number(16, 5, pos, out);
-    bytes::copy(b" |", &mut out[5..]);
+    copy(b" |", &mut out[5..]);
     put_hexes(l, &mut out[7..]);
     let at = 7 + 3 * n;
     fill(&mut out[at..], 3 * (16 - n), b' ');
@@ -174,7 +175,7 @@ pub(crate) fn put_dump(pos: usize, l: &[u8], out: &mut [u8])
     let n = l.len();
     let k = digits(n);
     put_number(10, k, n, out);
-    bytes::copy(b" byte packet:\n", &mut out[k..]);
+    copy(b" byte packet:\n", &mut out[k..]);
     let at = k + 14;
     put_lines(pos, l, &mut out[at..]);
 }

@@ -1,4 +1,6 @@
 // Packets with headroom: a record by value over a buffer that the caller lends.
+#![tactic(auto)]
+
 mod dump;
 mod put;
 
@@ -10,6 +12,7 @@ ghost use Rattle.packet.specs.Answers.{number_says, truth_says, part_says, made_
 ghost use Rattle.pkt.specs.Written.{zeros};
 
 use crate::put::{fill, place, place_zeros};
+use pkt::copying::copy;
 use pkt::refusal;
 
 // No packet ends behind this place.
@@ -17,47 +20,47 @@ const MOST_END: usize = 1048576;
 
 // A packet: the bytes of the buffer from the headroom up to, not including, the end.
 #[repr(C)]
-#[derive(Drop)]
+#[derive(Clone, Copy, Drop)]
 pub struct Packet {
     pub headroom: usize,
     pub end: usize,
 }
 
 // A part of the buffer: where it starts, and how long it is.
-#[derive(Drop)]
+#[derive(Clone, Copy, Drop)]
 pub struct PktSlice {
     pub off: usize,
     pub len: usize,
 }
 
 // A number of the packet, or how many bytes were written; or the refusal's number, as in each of the answers below.
-#[derive(Drop)]
+#[derive(Clone, Copy, Drop)]
 pub enum Number {
     Is(usize),
     Refused(u8),
 }
 
-#[derive(Drop)]
+#[derive(Clone, Copy, Drop)]
 pub enum Truth {
     Is(bool),
     Refused(u8),
 }
 
-#[derive(Drop)]
+#[derive(Clone, Copy, Drop)]
 pub enum Part {
     Is(PktSlice),
     Refused(u8),
 }
 
 // The new record.
-#[derive(Drop)]
+#[derive(Clone, Copy, Drop)]
 pub enum Made {
     Is(Packet),
     Refused(u8),
 }
 
 // The new record, and the part that was added.
-#[derive(Drop)]
+#[derive(Clone, Copy, Drop)]
 pub enum Pushed {
     Is(Packet, PktSlice),
     Refused(u8),
@@ -372,6 +375,6 @@ fn copy_part(s: PktSlice, buf: &[u8], out: &mut [u8]) -> Number
     if out.len() < s.len {
         return Number::Refused(refusal::NO_ROOM);
     }
-    bytes::copy(&buf[from..to], out);
+    copy(&buf[from..to], out);
     Number::Is(s.len)
 }

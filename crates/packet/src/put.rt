@@ -3,6 +3,8 @@ ghost use Rattle.std.specs.Prelude.{◌≡◌, ◌+◌, ◌≤◌, length, repli
 ghost use Rattle.pkt.specs.Written.{written, zeros};
 ghost use Rattle.packet.specs.Headroom.{placed};
 
+use pkt::copying::copy;
+
 // n times the byte v at the start of dst.
 pub(crate) fn fill(dst: &mut [u8], n: usize, v: u8)
     requires { n ≤ length dst.old }
@@ -20,7 +22,7 @@ pub(crate) fn place(buf: &mut [u8], at: usize, d: &[u8])
     requires { at + length d.now ≤ length buf.old }
     ensures { buf.new ≡ placed at d.now buf.old }
 {
-    bytes::copy(d, &mut buf[at..]);
+    copy(d, &mut buf[at..]);
 }
 
 // n zero bytes from place at on.

@@ -1,14 +1,17 @@
 // Captures by the published classic pcap layout: little-endian, version 2.4, snap length 65,535, link type 101, microseconds.
+#![tactic(auto)]
+
 ghost use Rattle.std.specs.Prelude.{◌≡◌, ◌+◌, ◌≤◌, length};
 ghost use Rattle.pcap.specs.Pcap.{file_header, record_header, record_bytes};
 ghost use Rattle.pkt.specs.Answers.{most_bytes};
 ghost use Rattle.pkt.specs.Written.{written};
 ghost use Rattle.pcap.specs.Answers.{captured_says, record_answer, HeaderWritten, RecordWritten};
 
+use pkt::copying::copy;
 use pkt::{limit, refusal};
 
 // How many bytes were written, or the refusal's number.
-#[derive(Drop)]
+#[derive(Clone, Copy, Drop)]
 pub enum Captured {
     Bytes(usize),
     Refused(u8),
@@ -31,7 +34,7 @@ pub fn write_header(out: &mut [u8]) -> Captured
         return Captured::Refused(refusal::NO_ROOM);
     }
     let h = header();
-    bytes::copy(&h, out);
+    copy(&h, out);
     Captured::Bytes(24)
 }
 
@@ -81,8 +84,8 @@ fn put_record(sec: u32, usec: u32, packet: &[u8], out: &mut [u8])
     ensures { out.new ≡ written (record_bytes sec usec packet.now) out.old }
 {
     let h = record_header(sec, usec, packet.len() as u32);
-    bytes::copy(&h, out);
-    bytes::copy(packet, &mut out[16..]);
+    copy(&h, out);
+    copy(packet, &mut out[16..]);
 }
 
 // A record of packet, taken at sec and usec, at the start of out.

@@ -1,0 +1,14 @@
+-- A valid record is read, and any other is refused.
+use mathlib.Core.Path.{sym, ◌∙◌}
+use native.Mathlib.Omega.{arith}
+use Rattle.packet.proofs.Headroom.{valid_true}
+use Rattle.packet.proofs.Packet.as_slice.Goals as goal
+
+pub whole_of-requires : goal.whole_of-requires
+whole_of-requires c = omega (arith, valid_true _ _ (sym c.is_valid.ensures ∙ c.if-is_valid.true))
+
+pub returns-then-is_valid : goal.returns-then-is_valid
+returns-then-is_valid c = simp (sym c.is_valid.ensures ∙ c.if-is_valid.true, c.whole_of.ensures)
+
+pub returns-else-is_valid : goal.returns-else-is_valid
+returns-else-is_valid c = simp (sym c.is_valid.ensures ∙ c.if-is_valid.false)
