@@ -6,6 +6,7 @@ ghost use Rattle.reading.specs.Reading.{step_says};
 ghost use Rattle.exporting.specs.Pcapng.{padding, section_block, interface_block, packet_block};
 ghost use Rattle.exporting.specs.Steps.{block_size, packet_head, packet_tail, record_with, step_block, StepAsks};
 
+use pkt::copying::copy;
 use reading::Step;
 
 // The bytes of the two blocks before the packets.
@@ -37,7 +38,7 @@ pub(crate) fn put_head(out: &mut [u8])
     ensures { out.new ≡ written (section_block ++ interface_block) out.old }
 {
     let h = head();
-    bytes::copy(&h, out);
+    copy(&h, out);
 }
 
 // The zeros behind n bytes, up to a multiple of four.
@@ -119,9 +120,9 @@ fn put(sec: u32, usec: u32, original: u32, packet: &[u8], out: &mut [u8]) -> usi
     let size = size(n);
     let head = packet_head(sec, usec, n as u32, original, size as u32);
     let tail = packet_tail(size as u32);
-    bytes::copy(&head, out);
-    bytes::copy(packet, &mut out[28..]);
-    bytes::copy(&tail[3 - zeros(n)..], &mut out[28 + n..]);
+    copy(&head, out);
+    copy(packet, &mut out[28..]);
+    copy(&tail[3 - zeros(n)..], &mut out[28 + n..]);
     size
 }
 

@@ -1,4 +1,6 @@
 // Exporting captures: the records of a classic capture go out as pcapng.
+#![tactic(auto)]
+
 ghost use Rattle.std.specs.Prelude.{◌≡◌, ◌+◌, ◌≤◌};
 ghost use Rattle.pkt.specs.Answers.{most_bytes};
 ghost use Rattle.pkt.specs.Written.{written};
@@ -14,7 +16,7 @@ use reading::Step;
 mod blocks;
 
 // How many bytes were written, or the refusal's number, with the record's where it is for one.
-#[derive(Drop)]
+#[derive(Clone, Copy, Drop)]
 pub enum Exported {
     Written(usize),
     Refused(u8),

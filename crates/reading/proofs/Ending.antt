@@ -64,18 +64,18 @@ behind_one k r (whole rs) = refl
 behind_one k r (broken_after rs) = ap (refused_at 25) (omega arith)
 
 -- From a place on the steps lead to the end of the records that they give, or to the one that is broken.
-lasts : (most : ℕ) (l : List ℕ) (at k : ℕ) (rs : Records) → length (drop at l) ≤ most → Steps l at k rs → last_from most k at l ≡ behind k rs
+lasts : (l : List ℕ) (most : ℕ) (at k : ℕ) (rs : Records) → length (drop at l) ≤ most → Steps l at k rs → last_from most k at l ≡ behind k rs
 unfolding last_from
-lasts most l _ _ _ f (ends at k e) = stops most k at l (fails _ (λ m. true≢false (cc (sym e ∙ there_found l at k m)))) ∙ e
-lasts most l _ _ _ f (breaks at k e) = stops most k at l (fails _ (λ m. true≢false (cc (sym e ∙ there_found l at k m)))) ∙ e ∙ ap (refused_at 25) (omega arith)
-lasts zero l _ _ _ f (goes at k s rs e n t) =
+lasts l most _ _ _ f (ends at k e) = stops most k at l (fails _ (λ m. true≢false (cc (sym e ∙ there_found l at k m)))) ∙ e
+lasts l most _ _ _ f (breaks at k e) = stops most k at l (fails _ (λ m. true≢false (cc (sym e ∙ there_found l at k m)))) ∙ e ∙ ap (refused_at 25) (omega arith)
+lasts l zero _ _ _ f (goes at k s rs e n t) =
     let w = broken_no (drop at l) (more_yes l at (found_there l at k s e)).1 in
     absurd (omega (arith, w.0))
-lasts (suc most) l _ _ _ f (goes at k s rs e n t) =
+lasts l (suc most) _ _ _ f (goes at k s rs e n t) =
     let m = found_there l at k s e in
     let w = broken_no (drop at l) (more_yes l at m).1 in
     let p : past_at l at ≡ at + record_size (drop at l) = pick_yes _ _ m in
-    pick_yes _ _ m ∙ lasts most l (past_at l at) (suc k) rs (omega (arith, p, length-drop at l, length-drop (past_at l at) l, size_more (drop at l), w.0)) t ∙ behind_one k (recorded_at l s) rs
+    pick_yes _ _ m ∙ lasts l most (past_at l at) (suc k) rs (omega (arith, p, length-drop at l, length-drop (past_at l at) l, size_more (drop at l), w.0)) t ∙ behind_one k (recorded_at l s) rs
 
 pub steps_end : StepsEnd
 steps_end l = go (starts_with file_header l) refl
@@ -87,5 +87,5 @@ steps_end l = go (starts_with file_header l) refl
     go : (b : Bool) → starts_with file_header l ≡ b → last_of l ≡ to_the_end (records_answer l)
     go true e =
         let rs : Records = records_of (drop header_size l) in
-        lasts (length l) l (open_at l) 0 rs (omega (arith, length-drop (open_at l) l)) (steps_read.reads l e) ∙ told rs ∙ sym (ap to_the_end (pick_yes _ _ e))
+        lasts l (length l) (open_at l) 0 rs (omega (arith, length-drop (open_at l) l)) (steps_read.reads l e) ∙ told rs ∙ sym (ap to_the_end (pick_yes _ _ e))
     go false e = stops (length l) 0 (open_at l) l (rw e) ∙ (steps_read.unopened l e 0).0 ∙ sym (ap to_the_end (pick_no _ _ e))

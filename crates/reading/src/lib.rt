@@ -1,5 +1,7 @@
 // Captures read through a reader that holds the lent capture and its place, or on a slice and a place. The work is done on a slice and numbers;
 // what is done with a reader takes it apart.
+#![tactic(auto)]
+
 ghost use Rattle.std.specs.Prelude.{◌≡◌, ◌+◌, ◌≤◌, false, length, drop};
 ghost use Rattle.pcap.specs.Read.{number, is_broken, record_size};
 ghost use Rattle.reading.specs.Reading.{starts_with, open_at, step_says, step_at, more_at, past_at, count_past, moved};
@@ -7,7 +9,7 @@ ghost use Rattle.reading.specs.Reading.{starts_with, open_at, step_says, step_at
 use pkt::{limit, refusal};
 
 // A lent capture, a place in it, and how many records lie before that place.
-#[derive(Drop)]
+#[derive(Clone, Copy, Drop)]
 pub struct Reader<'a> {
     capture: &'a [u8],
     at: usize,
@@ -15,7 +17,7 @@ pub struct Reader<'a> {
 }
 
 // A record: its number from 0, its time, where its packet stands and how long it is, and how long it was on the wire.
-#[derive(Drop)]
+#[derive(Clone, Copy, Drop)]
 pub struct Spot {
     pub number: usize,
     pub sec: u32,
@@ -26,7 +28,7 @@ pub struct Spot {
 }
 
 // What stands at a reader's place: a record, the end, or a refusal's number, with the record's where it is for one.
-#[derive(Drop)]
+#[derive(Clone, Copy, Drop)]
 pub enum Step {
     Record(Spot),
     End,

@@ -1,5 +1,5 @@
 -- No number of a report is above that of the packets, so that there is room for the next.
-use Rattle.std.proofs.Common.{◌≡◌, ℕ, suc, ◌+◌, ◌-◌, ◌≤◌, Bool, true, false, cond, eqb, List, length, sym, refl, ap, ◌∙◌, subst, arith}
+use Rattle.std.proofs.Common.{◌≡◌, ℕ, suc, ◌+◌, ◌≤◌, Bool, true, false, cond, eqb, List, length, sym, refl, ap, ◌∙◌, subst, arith}
 use Rattle.pkt.specs.Answers.{most_bytes}
 use Rattle.pkt.specs.Fields.{Bytes}
 use Rattle.ezpkt.specs.declared.SocketAddrV4.{SocketAddrV4}

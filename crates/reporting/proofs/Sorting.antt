@@ -1,5 +1,5 @@
 -- What a packet that passes the check has, and the class that tests lead to.
-use Rattle.std.proofs.Common.{◌≡◌, ℕ, ◌-◌, ◌≤◌, Bool, true, false, cond, ◌&&◌, eqb, List, length, sym, refl, ap, ◌∙◌, subst, ap₂, true≢false, arith, length-drop, length-take, ltb-false, eq-eqb, ne_eqb}
+use Rattle.std.proofs.Common.{◌≡◌, ℕ, ◌≤◌, Bool, true, false, cond, ◌&&◌, eqb, List, length, sym, refl, ap, ◌∙◌, subst, ap₂, true≢false, arith, length-drop, length-take, ltb-false, eq-eqb, ne_eqb}
 use Rattle.pkt.specs.Answers.{Answer, refused, gives, and_then, most_bytes}
 use Rattle.pkt.specs.Fields.{Bytes}
 use Rattle.pkt.proofs.Choice.{pick_yes, pick_no, or_no}

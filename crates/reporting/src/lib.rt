@@ -1,4 +1,6 @@
 // A report of one TCP flow over the packets of a lent slice: what each side sent, and how it arrived.
+#![tactic(auto)]
+
 ghost use Rattle.std.specs.Prelude.{◌≡◌, ◌≤◌, true};
 ghost use Rattle.pkt.specs.Answers.{most_bytes};
 ghost use Rattle.tcp4.specs.Tcp4.{set_in};
@@ -24,7 +26,7 @@ const HALF: u32 = 0x80000000;
 
 // What one side sent: segments, payload bytes, SYNs, FINs, how many segments arrived as expected, early and late, and the sequence number that is
 // expected next, which is 0 before the first segment.
-#[derive(Drop)]
+#[derive(Clone, Copy, Drop)]
 pub struct Tally {
     pub segments: usize,
     pub bytes: usize,
@@ -37,7 +39,7 @@ pub struct Tally {
 }
 
 // Both sides of a flow, how many packets failed the check, and how many were of other flows.
-#[derive(Drop)]
+#[derive(Clone, Copy, Drop)]
 pub struct Report {
     pub cl: Tally,
     pub sv: Tally,
@@ -46,7 +48,7 @@ pub struct Report {
 }
 
 // The report, or the refusal's number, with the index of the first end that it is for where it is for one.
-#[derive(Drop)]
+#[derive(Clone, Copy, Drop)]
 pub enum Reported {
     Is(Report),
     Refused(u8),
@@ -54,7 +56,7 @@ pub enum Reported {
 }
 
 // A segment: its sequence number, its flags and its payload bytes.
-#[derive(Drop)]
+#[derive(Clone, Copy, Drop)]
 struct Segment {
     seq: u32,
     flags: u8,
@@ -62,7 +64,7 @@ struct Segment {
 }
 
 // How a segment arrives.
-#[derive(Drop)]
+#[derive(Clone, Copy, Drop)]
 enum Arrival {
     Expected,
     Early,
@@ -70,7 +72,7 @@ enum Arrival {
 }
 
 // What a packet counts as.
-#[derive(Drop)]
+#[derive(Clone, Copy, Drop)]
 enum Class {
     Failed,
     Other,

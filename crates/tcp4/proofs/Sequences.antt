@@ -4,7 +4,7 @@ use Rattle.pkt.specs.Answers.{refused, gives}
 use Rattle.pkt.specs.Rfc9293.{RST, ACK}
 use Rattle.pkt.proofs.Deciding.{past}
 use Rattle.tcp4.specs.Tcp4.{Emit, Gone, emit, consumed, advance, after_one, after_all, any_long, size_all, ends_from, send_answer, popped, sent_says, Sends}
-use Rattle.tcp4.specs.Sequence.{Call, sends, hole, header, sets, Leads, sending, skipping, heading, pushing, popping, Run, none, next, seq_of, Count, mine, sent_by, restart, side_of, counted, counted_all, begun, Counts, Below, SequenceLaw, NothingConsumed}
+use Rattle.tcp4.specs.Sequence.{Call, Leads, sending, skipping, heading, pushing, popping, Run, none, next, seq_of, Count, mine, sent_by, restart, side_of, counted, counted_all, begun, Counts, Below, SequenceLaw, NothingConsumed}
 use Rattle.tcp4.specs.declared.TcpFlow.{TcpFlow}
 use Rattle.tcp4.specs.declared.Header.{Header}
 use Rattle.tcp4.specs.declared.PushedState.{PushedState}

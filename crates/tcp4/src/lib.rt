@@ -1,4 +1,6 @@
 // Segments and sequence state of a TCP flow.
+#![tactic(auto)]
+
 ghost use Rattle.std.specs.Prelude.{◌≡◌, ◌+◌, ◌≤◌, true, [], ◌∷◌, length, take, drop};
 ghost use Rattle.pkt.specs.Answers.{most_tcp};
 ghost use Rattle.pkt.specs.Rfc9293.{RST, PSH, ACK};
@@ -15,7 +17,7 @@ const FIN_ACK: u8 = ipv4::TCP_FIN + ipv4::TCP_ACK;
 
 const PSH_ACK: u8 = ipv4::TCP_PSH + ipv4::TCP_ACK;
 
-#[derive(Drop)]
+#[derive(Clone, Copy, Drop)]
 pub enum Side {
     Client,
     Server,
@@ -23,7 +25,7 @@ pub enum Side {
 
 // The two ends, the next sequence number of each, and what every packet is marked with.
 #[repr(C)]
-#[derive(Drop)]
+#[derive(Clone, Copy, Drop)]
 pub struct TcpFlow {
     pub cl: SocketAddrV4,
     pub sv: SocketAddrV4,
@@ -33,7 +35,7 @@ pub struct TcpFlow {
 }
 
 // The flow after_one one, two or three packets and where each packet ends, or the number of the refusal.
-#[derive(Drop)]
+#[derive(Clone, Copy, Drop)]
 pub enum Sent {
     One(TcpFlow, usize),
     Two(TcpFlow, usize, usize),
@@ -42,14 +44,14 @@ pub enum Sent {
 }
 
 // A sequence number for one side, or nothing for it.
-#[derive(Drop)]
+#[derive(Clone, Copy, Drop)]
 pub enum Seq {
     Is(u32),
     Nothing,
 }
 
 // The flow with other numbers, and the old number of each side that was set.
-#[derive(Drop)]
+#[derive(Clone, Copy, Drop)]
 pub struct PushedState {
     pub flow: TcpFlow,
     pub cl: Seq,
@@ -58,7 +60,7 @@ pub struct PushedState {
 
 // The flow after a header, and the header.
 #[repr(C)]
-#[derive(Drop)]
+#[derive(Clone, Copy, Drop)]
 pub struct Header {
     pub flow: TcpFlow,
     pub bytes: [u8; 20],

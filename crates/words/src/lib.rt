@@ -1,4 +1,6 @@
 // Numbers and addresses as a program's words: what they stand for, or that they are wrong.
+#![tactic(auto)]
+
 ghost use Rattle.std.specs.Prelude.{◌≡◌, ◌+◌, ◌*◌, ◌≤◌};
 ghost use Rattle.words.specs.Words.{is_plain, number_in, before, behind, parts_in, address_in};
 ghost use Rattle.words.specs.Steps.{digits_in, Found};
@@ -9,14 +11,14 @@ use ezpkt::{SocketAddrV4, part};
 pub const LONGEST: usize = 21;
 
 // The number that a word is, or that it is none.
-#[derive(Drop)]
+#[derive(Clone, Copy, Drop)]
 pub enum Number {
     Is(u16),
     Wrong,
 }
 
 // The address and the port that a word is, or that it is none.
-#[derive(Drop)]
+#[derive(Clone, Copy, Drop)]
 pub enum Address {
     Is(SocketAddrV4),
     Wrong,
