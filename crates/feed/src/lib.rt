@@ -1,4 +1,6 @@
 // The lap feed: telemetry frames of one car, each a UDP datagram, cut for a link and written as records of a capture.
+#![tactic(auto)]
+
 ghost use Rattle.std.specs.Prelude.{◌≡◌, ◌+◌, ◌≤◌, length};
 ghost use Rattle.pkt.specs.Answers.{most_udp};
 ghost use Rattle.pkt.specs.Written.{written};
@@ -13,6 +15,7 @@ use ezpkt::build::{Built, Request, UdpDatagram};
 use ezpkt::ip4::Template;
 use ezpkt::{Marks, SocketAddrV4, build, ip4};
 use pcap::Captured;
+use pkt::copying::copy;
 use pkt::{limit, refusal};
 
 const LEAST_LINK: u32 = 28;
@@ -20,7 +23,7 @@ const LEAST_LINK: u32 = 28;
 const MOST_LINK: u32 = 65535;
 
 // The feed of one car: the two ends, the link's size, the identification of the next datagram, and what every packet is marked with.
-#[derive(Drop)]
+#[derive(Clone, Copy, Drop)]
 pub struct Feed {
     pub car: SocketAddrV4,
     pub core: SocketAddrV4,
@@ -30,7 +33,7 @@ pub struct Feed {
 }
 
 // What a frame left: the feed after it, and how many bytes and pieces were written.
-#[derive(Drop)]
+#[derive(Clone, Copy, Drop)]
 pub struct Written {
     pub feed: Feed,
     pub bytes: usize,
@@ -38,7 +41,7 @@ pub struct Written {
 }
 
 // What a frame is answered.
-#[derive(Drop)]
+#[derive(Clone, Copy, Drop)]
 pub enum Fed {
     Frame(Written),
     Refused(u8),
@@ -172,7 +175,7 @@ fn put(
 {
     let size = ip4::fragment_size(off, len, payload.len());
     let header = pcap::record_header(sec, usec, size as u32);
-    bytes::copy(&header, out);
+    copy(&header, out);
     ip4::fragment(template, payload, off, len, &mut out[16..]);
     16 + size
 }

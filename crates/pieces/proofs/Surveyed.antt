@@ -1,6 +1,6 @@
 -- What the survey of a list finds is what the answer's definition asks.
 use mathlib.Core.Path.{◌≡◌, refl, sym, ap, ◌∙◌}
-use mathlib.Core.Bool.{Bool, true, false, not, ◌||◌, cond}
+use mathlib.Core.Bool.{Bool, true, false, ◌||◌, cond}
 use mathlib.Core.List.{List, [], ◌∷◌}
 use Prim.Native.Nat.{ℕ, suc, ◌+◌, ◌-◌}
 use native.Mathlib.Omega.{arith}
@@ -91,3 +91,8 @@ surveyed rs n room places =
     simp (n_is, found.0, short_is, left_is)
     (chosen (ltb most_ip n) (ltb (first_bad rs) (length rs)) (ltb room (sum_of n rs)) (ltb places (length rs)) _ _ _ _
     (λ h. found.1 h ∙ omega arith) all)
+
+-- The same of what was found, and of what the survey began with.
+pub survey_told : (rs : List BlockRequest) (n room places : ℕ) (b f : Found) → b ≡ found_none n room → f ≡ found_in b 0 rs
+    → found_answer f (length rs) room places ≡ fragments_answer rs n room places
+survey_told rs n room places b f begun is = rw (is, begun) (surveyed rs n room places)

@@ -1,5 +1,5 @@
 -- The loop that writes, after i turns: the end of the last packet, the output and the ends.
-use mathlib.Core.Path.{◌≡◌, refl, sym, ap, ◌∙◌}
+use mathlib.Core.Path.{◌≡◌, refl, sym, ap, ap₂, ◌∙◌}
 use mathlib.Core.Bool.{Bool, true, false, ◌||◌, cond}
 use mathlib.Core.List.{List, [], ◌∷◌, ◌++◌, append_assoc, append-nil}
 use Prim.Native.Nat.{ℕ, zero, suc, ◌+◌, ◌<◌, ◌≤◌}
@@ -21,7 +21,7 @@ use Rattle.ezpkt.proofs.Sizes.{size_is}
 use Rattle.pieces.specs.declared.BlockRequest.{BlockRequest}
 use Rattle.pieces.specs.Fragments.{packets_of, size_for, ends_from, sum_of, first_bad, fragments_answer}
 use Rattle.pieces.specs.OneByOne.{no_request, request_at}
-use Rattle.pieces.specs.Survey.{count_by, PutAsks}
+use Rattle.pieces.specs.Survey.{count_by, PutAsks, Put}
 
 -- ---- the answer's cases
 
@@ -158,6 +158,11 @@ written_more a [] v h = absurd (not-suc-le-zero h)
 written_more [] (y ∷ d) v h = refl
 written_more (x ∷ a) (y ∷ d) v h = ap (λ (l : List ℕ). x ∷ l) (written_more a d v (le_of_suc-le-suc h))
 
+-- no request, no sum
+pub none_yet : (n : ℕ) (ys : List BlockRequest) → sum_of n (take 0 ys) ≡ 0
+unfolding sum_of
+none_yet n ys = refl
+
 -- nothing written
 pub written_none : (d : List ℕ) → written [] d ≡ d
 unfolding written
@@ -240,6 +245,22 @@ module _ (t : Template) (rs : List BlockRequest) (p o e : List ℕ) where
       ap (λ (k : ℕ). set (ends_at i) k v) (sym at)
       ∙ written_more (ends_from n 0 (take i rs)) e v (omega (arith, at, ends_fit rs n (length o) (length e) (suc i) h))
       ∙ ap (λ (l : List ℕ). written l e) (sym more)
+
+  -- What `put` leaves in turn i, where it found what stands after i turns, is what stands after i + 1.
+  pub turn_more : (i at : ℕ) (b f : List ℕ) (end : ℕ) (b' f' : List ℕ) → i < count → at ≡ end_at_turn i → b ≡ out_at i → f ≡ ends_at i
+      → Put t (asked i) i at p b f end b' f' → (end ≡ end_at_turn (i + 1)) × (b' ≡ out_at (i + 1)) × (f' ≡ ends_at (i + 1))
+  turn_more i at b f end b' f' h ea eb ef put =
+      let pk = packet_of (fragment_of t (asked i).off (asked i).len) p in
+      let n : ℕ = size_for (length p) (asked i) in (
+        put.is_end ∙ ap (λ (a : ℕ). a + n) ea ∙ end_more i h,
+        put.output ∙ ap₂ (λ (a : ℕ) (d : List ℕ). take a d ++ written pk (drop a d)) ea eb ∙ out_more i h,
+        put.ends ∙ ap₂ (λ (d : List ℕ) (a : ℕ). set d i (a + n)) ef ea ∙ ends_more i h,
+      )
+
+  -- .. and it asks no more than holds there.
+  pub turn_allowed : (i at : ℕ) (b f : List ℕ) → i < count → at ≡ end_at_turn i → length b ≡ length o → length f ≡ length e
+      → PutAsks (asked i) i at (length p) (length b) (length f)
+  turn_allowed i at b f h ea eb ef = rw (ea, eb, ef) (turn_asks i h)
 
   -- before the first turn
   pub at_first : (out_at 0 ≡ o) × (ends_at 0 ≡ e)

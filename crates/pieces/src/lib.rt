@@ -1,4 +1,6 @@
 // A whole list of pieces of one payload at once.
+#![tactic(auto)]
+
 ghost use Rattle.std.specs.Prelude.{◌≡◌, ◌-◌, length};
 ghost use Rattle.ezpkt.specs.Answers.{built_says};
 ghost use Rattle.ezpkt.specs.Build.{is_bad_offset};
@@ -12,14 +14,14 @@ use pkt::{limit, refusal};
 
 // A piece to cut: len blocks of 8 bytes from block off.
 #[repr(C)]
-#[derive(Drop)]
+#[derive(Clone, Copy, Drop)]
 pub struct BlockRequest {
     pub off: u16,
     pub len: u16,
 }
 
 // How many bytes were written, or the number of the refusal, with the index of the first request that it is for where it is for one.
-#[derive(Drop)]
+#[derive(Clone, Copy, Drop)]
 pub enum Pieces {
     Written(usize),
     Refused(u8),
@@ -28,7 +30,7 @@ pub enum Pieces {
 
 // What is found in a list for a payload of n bytes: whether an offset is too large, and at which index first; whether the output is too short
 // for the packets, and how much of it they leave.
-#[derive(Drop)]
+#[derive(Clone, Copy, Drop)]
 struct Found {
     pub n: usize,
     pub bad: bool,
@@ -38,7 +40,7 @@ struct Found {
 }
 
 // What is decided: how many requests are written, and the answer.
-#[derive(Drop)]
+#[derive(Clone, Copy, Drop)]
 struct Job {
     pub count: usize,
     pub answer: Pieces,

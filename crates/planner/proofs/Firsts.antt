@@ -1,5 +1,5 @@
 -- What the planner's loop writes: the list after k stores, and that the last one leaves the plan.
-use mathlib.Core.Path.{◌≡◌, refl, sym, ap, ◌∙◌, subst}
+use mathlib.Core.Path.{◌≡◌, refl, sym, ap, ap₂, ◌∙◌, subst}
 use mathlib.Core.Logic.{◌⊎◌, inl, inr}
 use mathlib.Core.Bool.{Bool, true, false}
 use mathlib.Core.List.{List, [], ◌∷◌, ◌++◌, append_assoc, append-nil}
@@ -15,20 +15,15 @@ use Rattle.pkt.specs.Answers.{Answer, refused, gives, most_ip}
 use Rattle.pkt.proofs.Choice.{and_both, or_cases}
 use Rattle.pieces.specs.declared.BlockRequest.{BlockRequest}
 use Rattle.planner.specs.declared.Job.{Job}
+use Rattle.planner.specs.declared.Planned.{Planned}
 use Rattle.planner.specs.Cutting.{blocks_in, piece_count, length_at, requests_from, planned}
 use Rattle.planner.proofs.Counting.{count_one, begins_within}
 use Rattle.planner.specs.Steps.{nth_of, firsts}
-use Rattle.planner.specs.Answers.{can_plan, plan_answer, count_for, list_after, Decided}
+use Rattle.planner.specs.Answers.{can_plan, planned_says, plan_answer, count_for, list_after, Decided, Plans}
 use Rattle.pkt.specs.Written.{over}
 
 -- ---- a list that is written from its front, one element after the other
 module _ {A : Type 0} where
-  -- it is as long as it was
-  over_length : (a d : List A) → length a ≤ length d → length (over a d) ≡ length d
-  over_length [] d h = refl
-  over_length (x ∷ a) [] h = absurd (not-suc-le-zero h)
-  over_length (x ∷ a) (y ∷ d) h = ap suc (over_length a d (le_of_suc-le-suc h))
-
   -- a store behind what is written writes one more
   over_more : (a d : List A) (v : A) → length a < length d → set (over a d) (length a) v ≡ over (a ++ (v ∷ [])) d
   over_more a [] v h = absurd (not-suc-le-zero h)
@@ -43,12 +38,11 @@ firsts_length j (suc k) = simp (length-append, firsts_length j k) (omega arith)
 abbrev pub filled : Job → List BlockRequest → ℕ → List BlockRequest
 filled j ys k = over (firsts j k) ys
 
-pub filled_length : (j : Job) (ys : List BlockRequest) (k : ℕ) → k ≤ length ys → length (filled j ys k) ≡ length ys
-filled_length j ys k h = over_length (firsts j k) ys (subst (λ (i : ℕ). i ≤ length ys) (sym (firsts_length j k)) h)
-
-pub filled_more : (j : Job) (ys : List BlockRequest) (k : ℕ) → k < length ys → set (filled j ys k) k (nth_of j k) ≡ filled j ys (k + 1)
-filled_more j ys k h =
-    ap (λ (i : ℕ). set (filled j ys k) i (nth_of j k)) (sym (firsts_length j k))
+pub filled_more : (j : Job) (ys l : List BlockRequest) (k : ℕ) (r : BlockRequest) → k < length ys → l ≡ filled j ys k → r ≡ nth_of j k
+    → set l k r ≡ filled j ys (k + 1)
+filled_more j ys l k r h el er =
+    ap₂ (λ (z : List BlockRequest) (x : BlockRequest). set z k x) el er
+    ∙ ap (λ (i : ℕ). set (filled j ys k) i (nth_of j k)) (sym (firsts_length j k))
     ∙ over_more (firsts j k) ys (nth_of j k) (subst (λ (i : ℕ). i < length ys) (sym (firsts_length j k)) h)
     ∙ ap (filled j ys) (sym (add-one k))
 
@@ -150,3 +144,13 @@ decided_writes n m ys j d = go (answer_cases n m (length ys))
     go (inr (e, few, can, room)) =
         let c : j.count ≡ piece_count n m = d.1 ∙ ap count_for e in
         (omega arith, ap (filled j ys) c ∙ ap (λ (l : List BlockRequest). over l ys) (firsts_are j n m few can c d.2 d.3) ∙ ap (λ (a : Answer ℕ). list_after a (planned n m) ys) (sym e))
+
+-- .. so that, with the answer that was decided, all is as promised
+pub plans : (n m : ℕ) (ys : List BlockRequest) (j : Job) (k : ℕ) (r : Planned) (l : List BlockRequest) → Decided n m (length ys) j → k ≤ j.count
+    → j.count ≤ k → l ≡ filled j ys k → r ≡ j.answer → Plans n m ys r l
+plans n m ys j k r l d h g el er =
+    let all : k ≡ j.count = omega arith in
+    record {
+      answer = ap planned_says er ∙ d.0;
+      list_is = el ∙ ap (filled j ys) all ∙ (decided_writes n m ys j d).1;
+    }

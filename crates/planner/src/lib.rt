@@ -1,4 +1,6 @@
 // Cutting plans: a check for lists of block requests, and a planner that writes one.
+#![tactic(auto)]
+
 ghost use Rattle.std.specs.Prelude.{◌≡◌, ◌-◌, min, ◌&&◌};
 ghost use Rattle.ezpkt.specs.Build.{start_at, end_at};
 ghost use Rattle.planner.specs.Cutting.{piece_count, length_at};
@@ -10,7 +12,7 @@ use pieces::BlockRequest;
 use pkt::{limit, refusal};
 
 // Whether a list is a plan, or the number of the refusal.
-#[derive(Drop)]
+#[derive(Clone, Copy, Drop)]
 pub enum Judged {
     Yes,
     No,
@@ -18,14 +20,14 @@ pub enum Judged {
 }
 
 // How many requests were written, or the number of the refusal.
-#[derive(Drop)]
+#[derive(Clone, Copy, Drop)]
 pub enum Planned {
     Made(usize),
     Refused(u8),
 }
 
 // What is known after so many requests: the bytes before next were carried; whether all was good so far; whether the last has MF clear.
-#[derive(Drop)]
+#[derive(Clone, Copy, Drop)]
 pub struct Look {
     pub n: usize,
     pub m: usize,
@@ -35,7 +37,7 @@ pub struct Look {
 }
 
 // What is decided: how many requests are written, of n bytes with so many blocks in a full one, and the answer.
-#[derive(Drop)]
+#[derive(Clone, Copy, Drop)]
 pub struct Job {
     pub count: usize,
     pub n: usize,
