@@ -1,15 +1,16 @@
 -- Bytes stored in a buffer: a fill, a copy, and what stands at each place after them.
 use mathlib.Core.Path.{◌≡◌, refl, sym, ◌∙◌}
-use mathlib.Core.List.{List, [], ◌∷◌, ◌++◌, append-nil, append_assoc}
+use mathlib.Core.List.{List, [], ◌∷◌, append-nil, append_assoc}
 use Prim.Native.Nat.{ℕ, suc, ◌+◌, ◌-◌, ◌≤◌, ◌<◌}
 use native.Mathlib.Decide.{ℕ_discrete}
 use native.Mathlib.Omega.{arith}
 use lib.ListN.{length, get_or, set, take, drop, replicate, length-set, length-replicate}
-use lib.Seq.{sets, length-sets, sets-eq, get_or-set_same, get_or-set_other, ext_get_or, take-length, drop-drop}
+use lib.Seq.{sets, length-sets, sets-eq, get_or-set_same, get_or-set_other, ext_get_or, drop-drop}
 use borrow.Rule.Slice.PartMut.{mid_of, put_mid}
-use Rattle.pkt.proofs.Parts.{mid_tail, post_tail}
+use Rattle.pkt.proofs.Parts.{mid_tail, mid_length, post_tail}
+use Rattle.pkt.proofs.Written.{copy_written}
 use Rattle.assembly.proofs.Marks.{get_d_zeros}
-use Rattle.pkt.specs.Written.{zeros}
+use Rattle.pkt.specs.Written.{written, zeros}
 
 -- ---- bytes stored one after the other
 pub get_d_sets_out : (l : List ℕ) (i : ℕ) (vs : List ℕ) (j : ℕ) → (i ≤ j → i + length vs ≤ j) → get_or (sets l i vs) j 0 ≡ get_or l j 0
@@ -57,8 +58,9 @@ fill_zeros l =
 
 -- ---- a copy onto `&mut d[at..]`
 pub copied : (d xs e : List ℕ) (at : ℕ) → at + length xs ≤ length d
-    → e ≡ take (length xs) xs ++ drop (length xs) (mid_of at (length d - at) d)
+    → e ≡ written (take (length (mid_of at (length d - at) d)) xs) (mid_of at (length d - at) d)
     → put_mid at (length d - at) d e ≡ sets d at xs
+unfolding written
 copied d xs e at h q =
-    rw (q, mid_tail at d, post_tail at d, append-nil, take-length, drop-drop)
+    rw (q, copy_written xs (mid_of at (length d - at) d) (omega (arith, mid_length at d)), mid_tail at d, post_tail at d, append-nil, drop-drop)
     (sym (sets-eq xs d at h ∙ append_assoc (take at d) xs (drop (at + length xs) d)))

@@ -7,7 +7,7 @@ use native.Mathlib.Omega.{arith}
 use lib.ListN.{length, take}
 use lib.Dec.{leb, eqb}
 use borrow.Author.Tests.{leb-true, leb-false, le-leb, lt-leb, eqb-true, eq-eqb}
-use Rattle.pkt.specs.Answers.{Answer, refused, gives, and_then, mapped}
+use Rattle.pkt.specs.Answers.{Answer, refused, gives, mapped}
 use Rattle.inspect.specs.Header.{length_field, data_of}
 use Rattle.inspect.specs.declared.header.IpRead.{IpRead}
 use Rattle.assembly.specs.declared.Key.{Key}

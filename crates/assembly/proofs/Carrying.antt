@@ -14,7 +14,7 @@ use Rattle.pkt.proofs.Deciding.{past, held}
 use Rattle.inspect.proofs.Numbers.{part_front}
 use Rattle.inspect.proofs.Reading.{read_framed, read_total, read_front}
 use Rattle.assembly.specs.declared.Key.{Key}
-use Rattle.assembly.specs.Piece.{Piece, end, Acceptable}
+use Rattle.assembly.specs.Piece.{Piece, Acceptable}
 use Rattle.assembly.specs.View.{piece}
 use Rattle.assembly.specs.Carried.{key_of, same_key, piece_of, broken, fit_answer, keyed_answer, head_answer, piece_answer}
 use Rattle.pkt.proofs.Choice.{and_no, pick_yes, pick_no}

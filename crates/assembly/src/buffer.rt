@@ -3,6 +3,8 @@ ghost use Rattle.std.specs.Prelude.{◌≡◌, ◌+◌, ◌-◌, ◌≤◌, leng
 ghost use Rattle.std.proofs.lemmas.List.Edits.{sets};
 ghost use Rattle.pkt.specs.Written.{zeros};
 
+use pkt::copying::copy;
+
 // Stores v at every place from `from` up to, not including, `to`.
 pub(crate) fn fill(b: &mut [u8], from: usize, to: usize, v: u8)
     requires from_le_to { from ≤ to }
@@ -29,5 +31,5 @@ pub(crate) fn copy_in(payload: &mut [u8], at: usize, body: &[u8])
     requires { at + length body.now ≤ length payload.old }
     ensures { payload.new ≡ sets payload.old at body.now }
 {
-    bytes::copy(body, &mut payload[at..]);
+    copy(body, &mut payload[at..]);
 }

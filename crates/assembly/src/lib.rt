@@ -1,4 +1,6 @@
 // One datagram in progress: its pieces are taken in any order, and the state they end in does not show which.
+#![tactic(auto)]
+
 pub mod any;
 mod buffer;
 pub mod carried;
@@ -23,7 +25,7 @@ const MAP_BYTES: usize = 1024;
 
 // "identification, source, destination and protocol"
 #[repr(C)]
-#[derive(Drop)]
+#[derive(Clone, Copy, Drop)]
 pub struct Key {
     pub saddr: u32,
     pub daddr: u32,
@@ -31,14 +33,14 @@ pub struct Key {
     pub protocol: u8,
 }
 
-#[derive(Drop)]
+#[derive(Clone, Copy, Drop)]
 pub enum Total {
     Known(usize),
     Unknown,
 }
 
 // What is kept of an assembly beside its payload buffer and its map.
-#[derive(Drop)]
+#[derive(Clone, Copy, Drop)]
 pub struct Rec {
     pub key: Key,
     pub total: Total,
@@ -47,7 +49,7 @@ pub struct Rec {
 }
 
 // What taking a piece answers: with the new record, or a refusal's number.
-#[derive(Drop)]
+#[derive(Clone, Copy, Drop)]
 pub enum Taken {
     Waiting(Rec),
     Complete(Rec),
@@ -55,7 +57,7 @@ pub enum Taken {
     Refused(u8),
 }
 
-#[derive(Drop)]
+#[derive(Clone, Copy, Drop)]
 pub enum Opened {
     Open(Rec),
     Refused(u8),

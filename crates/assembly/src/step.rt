@@ -8,7 +8,7 @@ ghost use Rattle.assembly.specs.Answers.{taken_says, reply, Moves, standing_of, 
 use crate::{Key, Rec, Taken, Total, buffer, compare, map, record};
 
 // How an assembly stands: a complete datagram with its length, or a refusal's number.
-#[derive(Drop)]
+#[derive(Clone, Copy, Drop)]
 pub enum Progress {
     Waiting,
     Complete(usize),

@@ -165,17 +165,17 @@ module _ (l : List ℕ) (found : Passed) (o₀ : List ℕ) (e₀ : List (List �
 
   -- and the second pass, over a copy, leaves what is owed.
   pub mends_accepted : (c : Counts) (x o' : List ℕ) (e' : List (List ℕ)) (again : Passed) → mended_says r ≡ gives_all c → Bytes l
-      → x ≡ take (length l) l ++ drop (length l) (o₀ ++ o) → Passes l x (e₀ ++ e) again o' e' → Mends l o e r o' e'
+      → x ≡ written (take (length (o₀ ++ o)) l) (o₀ ++ o) → Passes l x (e₀ ++ e) again o' e' → Mends l o e r o' e'
   mends_accepted c x o' e' again is b copied second =
       let q : mend_answer l (length o) (length e) ≡ gives_all c = sym says ∙ is in
-      let fits = (room_for c is).1 in
-      let copy : x ≡ written l o = copied ∙ copy_written l (o₀ ++ o) ∙ ap (written l) bytes_stay in
+      let room = room_for c is in
+      let copy : x ≡ written l o = copied ∙ copy_written l (o₀ ++ o) (rw bytes_stay room.0) ∙ ap (written l) bytes_stay in
       let bytes : o' ≡ written (mend l) o = second.puts.output ∙ ap (put_sums (sums_of l)) copy ∙ put_copy l o b in
       let size : 0 + length (changes l) ≡ length (changes l) = omega arith in
       let rows : e' ≡ over (changes l) e =
       second.puts.rows
       ∙ ap (λ (y : List (List ℕ)). sets y 0 (changes l)) rows_stay
-      ∙ sets-eq (changes l) e 0 (omega arith)
+      ∙ sets-eq (changes l) e 0 (omega (arith, room.1))
       ∙ ap (λ (n : ℕ). changes l ++ drop n e) size in
       record {
         answer = says;

@@ -6,20 +6,20 @@ use mathlib.Core.Bool.{true, false}
 use mathlib.Core.List.{List, [], ◌∷◌, ◌++◌}
 use lib.ListN.{length}
 use lib.Seq.{sets, length-sets}
-use Rattle.pkt.specs.Answers.{Answer, refused, gives}
+use Rattle.pkt.specs.Answers.{Answer, refused, gives, ListAnswer}
 use Rattle.pkt.proofs.Choice.{pick_yes, pick_no}
 use Rattle.inspect.specs.Answers.{Whole}
 use Rattle.inspect.specs.Check.{examine_answer}
 use Rattle.inspect.specs.declared.header.IpRead.{IpRead}
 use Rattle.inspect.specs.declared.check.Kind.{Kind}
 use Rattle.inspect.specs.declared.check.Kind.TheVariants.{Tcp, Udp, Bare, Icmp}
-use Rattle.reading.specs.Reading.{open_at, step_says, spot_at, packet_at, step_at, more_at, past_at, count_past}
+use Rattle.reading.specs.Reading.{Next, open_at, step_says, spot_at, packet_at, step_at, more_at, past_at, count_past}
 use Rattle.reading.specs.Ends.{last_from, last_of}
 use Rattle.reading.proofs.Stepping.{steps_read}
 use Rattle.reading.proofs.Ending.{there_found, spot_within, stops, goes_on}
 use Rattle.mending.specs.Sums.{part_fields, fields_of, sums_in}
 use Rattle.mending.specs.Mend.{Listed, listed, sums_at, sums_from, sums_of, put_sums, changes_of}
-use Rattle.mending.specs.Pass.{StepAsks, Passes}
+use Rattle.mending.specs.Pass.{StepAsks, Put, Passes}
 use Rattle.mending.specs.declared.sums.SumField.{SumField}
 use Rattle.mending.specs.declared.Passed.{Passed}
 use Rattle.mending.proofs.Changes.{changes_append, changes_few, changes_count, sets_append}
@@ -146,3 +146,11 @@ next_count l at k b h e = (steps_read.counts l at k b h e).0
 
 pub falls : (l : List ℕ) (at : ℕ) → more_at l at ≡ true → length l - past_at l at < length l - at
 falls l at e = let w = spot_within l at e in omega (arith, w.0, w.1)
+
+-- A turn of the loop: what `put` leaves and where the reader then stands.
+pub turn : (l os : List ℕ) (es : List (List ℕ)) (at k c m : ℕ) (o : List ℕ) (e : List (List ℕ)) (s : ListAnswer Next) (at' k' c' : ℕ) (o' : List ℕ)
+    (e' : List (List ℕ)) → length l < 2 ^ 64 → more_at l at ≡ true → s ≡ step_at l at k → at' ≡ past_at l at → k' ≡ count_past l at k
+    → Put (sums_at l s) c o e c' o' e' → Facts l os es at k c m o e → Facts l os es at' k' c' (m - 1) o' e'
+turn l os es at k c m o e s at' k' c' o' e' few h is is_at is_k put f =
+    let next = next_count l at k few f.number_fits h in
+    rw (is_at, is_k, next, put.count, put.output, put.rows, is) (at_next l os es at k c m o e h f)

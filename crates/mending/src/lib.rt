@@ -1,4 +1,6 @@
 // Mending damaged captures: the checksums of packets that are otherwise whole are worked out anew, and each change is listed.
+#![tactic(auto)]
+
 ghost use Rattle.std.specs.Prelude.{◌≡◌, ◌+◌, ◌^◌, ◌<◌, ◌∷◌, [], set};
 ghost use Rattle.reading.specs.Reading.{step_says};
 ghost use Rattle.mending.specs.Sums.{renewed, sums_says};
@@ -6,6 +8,7 @@ ghost use Rattle.mending.specs.Mend.{listed, sums_at, mended_says, room_answer, 
 ghost use Rattle.mending.specs.Pass.{Put, SumsAsk, StepAsks, Passes, answer_after};
 
 use crate::sums::{SumField, Sums};
+use pkt::copying::copy;
 use pkt::refusal;
 use reading::Step;
 
@@ -17,7 +20,7 @@ pub const IPV4: usize = 0;
 pub const TRANSPORT: usize = 1;
 
 // How many bytes and how many changes were written, or the refusal's number, with the record's where it is for one.
-#[derive(Drop)]
+#[derive(Clone, Copy, Drop)]
 pub enum Mended {
     Written { bytes: usize, changes: usize },
     Refused(u8),
@@ -25,7 +28,7 @@ pub enum Mended {
 }
 
 // What a pass found: how many changes, and the step that found no further record.
-#[derive(Drop)]
+#[derive(Clone, Copy, Drop)]
 struct Passed {
     pub changes: usize,
     pub last: Step,
@@ -181,7 +184,7 @@ pub fn mend(capture: &[u8], out: &mut [u8], rows: &mut [[usize; 4]]) -> Mended
             bytes: _,
             changes: _,
         } => {
-            bytes::copy(capture, out);
+            copy(capture, out);
             pass(capture, out, rows);
             answer
         }

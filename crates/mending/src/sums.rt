@@ -16,7 +16,7 @@ use pkt::ipv4;
 use pkt::ipv4::{Sum, icmp_echo_hdr, icmp_hdr, proto};
 
 // A checksum's field of a packet: its place, the number that it holds, and the number that belongs there.
-#[derive(Drop)]
+#[derive(Clone, Copy, Drop)]
 pub struct SumField {
     pub at: usize,
     pub old: u16,
@@ -24,7 +24,7 @@ pub struct SumField {
 }
 
 // The fields of a packet that are worked out anew: neither, the header's, or both the header's and the transport's.
-#[derive(Drop)]
+#[derive(Clone, Copy, Drop)]
 pub enum Sums {
     Neither,
     Ip(SumField),

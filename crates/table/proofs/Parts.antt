@@ -107,8 +107,11 @@ front_part : (C i n : ℕ) (d : List ℕ) → n ≤ C → lent_front C i n d ≡
 unfolding part_of
 front_part C i n d h = ap (λ (k : ℕ). take k (drop (C * i) d)) (span (C * i) n) ∙ sym (take-take n C (drop (C * i) d) h)
 
--- the kit's copy of them leaves them written
-pub copied_out : (C i n : ℕ) (d o o₁ : List ℕ) → n ≤ C
-    → o₁ ≡ take (length (lent_front C i n d)) (lent_front C i n d) ++ drop (length (lent_front C i n d)) o
+-- the copy of them leaves them written
+pub copied_out : (C i n : ℕ) (d o o₁ : List ℕ) → n ≤ C → n ≤ length o
+    → o₁ ≡ written (take (length o) (lent_front C i n d)) o
     → o₁ ≡ written (take n (part_of C i d)) o
-copied_out C i n d o o₁ h e = e ∙ copy_written _ o ∙ ap (λ (a : List ℕ). written a o) (front_part C i n d h)
+copied_out C i n d o o₁ h r e =
+    let f = front_part C i n d h in
+    let room : length (lent_front C i n d) ≤ length o = rw f (omega (arith, length-take n (part_of C i d))) in
+    e ∙ copy_written (lent_front C i n d) o room ∙ ap (λ (a : List ℕ). written a o) f

@@ -1,4 +1,6 @@
 // Eight datagrams in progress: a table of slots by value, and a lent buffer each for their payloads and their maps.
+#![tactic(auto)]
+
 ghost use Rattle.std.specs.Prelude.{◌≡◌, true, ◌<◌, ◌≤◌, length, set, drop, replicate};
 ghost use Rattle.pkt.specs.Answers.{refused, gives, mapped};
 ghost use Rattle.pkt.specs.Written.{zeros};
@@ -13,6 +15,7 @@ ghost use Rattle.table.specs.Steps.{Stored, landing_says, Lands, PutAsks, Fittin
 use assembly::{Key, Progress, Rec, Taken, Total, any, carried};
 use inspect::header;
 use inspect::header::{IpRead, Seen};
+use pkt::copying::copy;
 use pkt::refusal;
 
 const SLOT_BYTES: usize = 8192;
@@ -20,28 +23,28 @@ const SLOT_BYTES: usize = 8192;
 const SLOT_MAP: usize = 128;
 
 // An assembly in progress, or none: then the record says nothing.
-#[derive(Drop)]
+#[derive(Clone, Copy, Drop)]
 pub struct Slot {
     pub used: bool,
     pub rec: Rec,
 }
 
 // The number of a slot.
-#[derive(Drop)]
+#[derive(Clone, Copy, Drop)]
 pub enum Found {
     At(usize),
     Absent,
 }
 
 // Where a piece went: a slot, and what the assembly there answered. On a refusal the slot says nothing.
-#[derive(Drop)]
+#[derive(Clone, Copy, Drop)]
 struct Landing {
     slot: usize,
     taken: Taken,
 }
 
 // What taking a piece answers.
-#[derive(Drop)]
+#[derive(Clone, Copy, Drop)]
 pub enum Stepped {
     Waiting,
     Complete,
@@ -50,35 +53,35 @@ pub enum Stepped {
 }
 
 // The table after a piece, and the answer.
-#[derive(Drop)]
+#[derive(Clone, Copy, Drop)]
 pub struct Placed {
     pub table: [Slot; 8],
     pub answer: Stepped,
 }
 
 // The length of a datagram that was taken out, or the number of the refusal.
-#[derive(Drop)]
+#[derive(Clone, Copy, Drop)]
 pub enum Out {
     Datagram(usize),
     Refused(u8),
 }
 
 // The table after a datagram was taken out, and the answer.
-#[derive(Drop)]
+#[derive(Clone, Copy, Drop)]
 pub struct TakenOut {
     pub table: [Slot; 8],
     pub answer: Out,
 }
 
 // Whether an assembly was discarded, or the number of the refusal.
-#[derive(Drop)]
+#[derive(Clone, Copy, Drop)]
 pub enum Gone {
     Done,
     Refused(u8),
 }
 
 // The table after an assembly was discarded, and the answer.
-#[derive(Drop)]
+#[derive(Clone, Copy, Drop)]
 pub struct Discarded {
     pub table: [Slot; 8],
     pub answer: Gone,
@@ -471,7 +474,7 @@ fn move_out(
     ensures { MovedOut table i n payloads.old maps.old out.old result payloads.new maps.new out.new }
 {
     let at = SLOT_BYTES * i;
-    bytes::copy(&payloads[at..at + n], out);
+    copy(&payloads[at..at + n], out);
     let table = empty_at(table, i, payloads, maps);
     let answer = Out::Datagram(n);
     TakenOut { table, answer }

@@ -1,0 +1,125 @@
+-- By the kind: what is not refused has its fields within it, and each is worked out from the packet's own bytes.
+use Prim.Native.Nat.{ℕ}
+use native.Mathlib.Omega.{arith}
+use mathlib.Core.List.{List}
+use mathlib.Core.Path.{◌≡◌, ap, ◌∙◌}
+use Rattle.pkt.specs.Answers.{gives}
+use Rattle.inspect.specs.Answers.{whole}
+use Rattle.inspect.specs.Check.{examine_answer}
+use Rattle.inspect.specs.declared.header.IpRead.{IpRead}
+use Rattle.inspect.specs.declared.check.Kind.{Kind}
+use Rattle.inspect.specs.declared.check.Kind.TheVariants.{Icmp}
+use Rattle.inspect.proofs.Reading.{framed}
+use Rattle.mending.specs.Sums.{part_fields}
+use Rattle.mending.proofs.Wholes.{Known, known, shape_long, data_most, part_asks, sum_within}
+use Rattle.mending.proofs.sums.of_whole.Goals as goal
+
+-- what is known once the kind is
+known_as : (l : List ℕ) (h : IpRead) {k j : Kind} → examine_answer l ≡ gives (whole h k) → k ≡ j → Known l h j
+known_as l h {j = j} e s = known l h j (e ∙ ap (λ (i : Kind). gives (whole h i)) s)
+
+pub ip_sum-requires : goal.ip_sum-requires
+ip_sum-requires c = (known c.args.packet.now c.args.h c.args.kind c.requires).frame
+
+pub field-ip-requires : goal.field-ip-requires
+field-ip-requires c =
+    let a = c.args in
+    let f = framed a.packet.now a.h (known a.packet.now a.h a.kind c.requires).frame in
+    omega arith
+
+pub slice_bounds-part-count : goal.slice_bounds-part-count
+slice_bounds-part-count c =
+    let a = c.args in
+    let f = framed a.packet.now a.h (known a.packet.now a.h a.kind c.requires).frame in
+    omega arith
+
+pub slice_bounds-part-start : goal.slice_bounds-part-start
+slice_bounds-part-start c =
+    let a = c.args in
+    let f = framed a.packet.now a.h (known a.packet.now a.h a.kind c.requires).frame in
+    omega arith
+
+pub slice_bounds-part-end : goal.slice_bounds-part-end
+slice_bounds-part-end c =
+    let a = c.args in
+    let f = framed a.packet.now a.h (known a.packet.now a.h a.kind c.requires).frame in
+    omega arith
+
+pub overflow_add-start : goal.overflow_add-start
+overflow_add-start c =
+    let a = c.args in
+    let f = framed a.packet.now a.h (known a.packet.now a.h a.kind c.requires).frame in
+    omega arith
+
+pub behind_pseudo-requires : goal.behind_pseudo-requires
+behind_pseudo-requires c =
+    let l : List ℕ = c.args.packet.now in
+    let h : IpRead = c.args.h in
+    part_asks l h _ (known_as l h c.requires c.in-Tcp.is) (λ i. (c.shared_slice_known-1.given i).fits) _ (omega arith)
+
+pub field-requires : goal.field-requires
+field-requires c =
+    let l : List ℕ = c.args.packet.now in
+    let h : IpRead = c.args.h in
+    let q = known_as l h c.requires c.in-Tcp.is in
+    omega (arith, sum_within l h _ q, (framed l h q.frame).least)
+
+pub overflow_add-start-in-Udp : goal.overflow_add-start-in-Udp
+overflow_add-start-in-Udp c =
+    let a = c.args in
+    let f = framed a.packet.now a.h (known a.packet.now a.h a.kind c.requires).frame in
+    omega arith
+
+pub behind_pseudo-requires-in-Udp : goal.behind_pseudo-requires-in-Udp
+behind_pseudo-requires-in-Udp c =
+    let l : List ℕ = c.args.packet.now in
+    let h : IpRead = c.args.h in
+    part_asks l h _ (known_as l h c.requires c.in-Udp.is) (λ i. (c.shared_slice_known-1.given i).fits) _ (omega arith)
+
+pub field-requires-in-Udp : goal.field-requires-in-Udp
+field-requires-in-Udp c =
+    let l : List ℕ = c.args.packet.now in
+    let h : IpRead = c.args.h in
+    let q = known_as l h c.requires c.in-Udp.is in
+    omega (arith, sum_within l h _ q, (framed l h q.frame).least)
+
+pub overflow_add-start-in-Icmp : goal.overflow_add-start-in-Icmp
+overflow_add-start-in-Icmp c =
+    let a = c.args in
+    let f = framed a.packet.now a.h (known a.packet.now a.h a.kind c.requires).frame in
+    omega arith
+
+pub icmp_sum-requires : goal.icmp_sum-requires
+icmp_sum-requires c =
+    let l : List ℕ = c.args.packet.now in
+    let h : IpRead = c.args.h in
+    let q = known_as l h c.requires c.in-Icmp.is in
+    ((shape_long q.shape).0, data_most l h Icmp q (λ i. (c.shared_slice_known-1.given i).fits))
+
+pub field-requires-in-Icmp : goal.field-requires-in-Icmp
+field-requires-in-Icmp c =
+    let l : List ℕ = c.args.packet.now in
+    let h : IpRead = c.args.h in
+    let q = known_as l h c.requires c.in-Icmp.is in
+    omega (arith, sum_within l h _ q, (framed l h q.frame).least)
+
+pub returns-in-Tcp : goal.returns-in-Tcp
+unfolding part_fields
+returns-in-Tcp c =
+    rw c.in-Tcp.is (simp (c.field-ip.ensures, c.ip_sum.ensures, c.field.ensures, c.behind_pseudo.ensures))
+
+pub returns-in-Udp : goal.returns-in-Udp
+unfolding part_fields
+returns-in-Udp c =
+    rw c.in-Udp.is
+    (simp (c.field-ip.ensures, c.ip_sum.ensures, c.field-in-Udp.ensures, c.nonzero_of.ensures, c.behind_pseudo-in-Udp.ensures))
+
+pub returns-in-Bare : goal.returns-in-Bare
+unfolding part_fields
+returns-in-Bare c =
+    rw c.in-Bare.is (simp (c.field-ip.ensures, c.ip_sum.ensures))
+
+pub returns-in-Icmp : goal.returns-in-Icmp
+unfolding part_fields
+returns-in-Icmp c =
+    rw c.in-Icmp.is (simp (c.field-ip.ensures, c.ip_sum.ensures, c.field-in-Icmp.ensures, c.icmp_sum.ensures))
