@@ -41,7 +41,7 @@ use Rattle.mending.proofs.Renewed.{renewed_length}
 use Rattle.mending.proofs.Wholes.{Shape, sum_at, Known, known}
 use Rattle.mending.proofs.Anew.{part_sum}
 use Rattle.mending.proofs.Encoded.{option_mended, encoded_mended}
-use Rattle.demands.specs.Options.{Parts, Optioned, bare_with, full_with, bare, full, Mixed, none, same, with_options, OptionsPassed}
+use Rattle.demands.specs.Options.{Optioned, bare_with, full_with, bare, full, Mixed, none, same, with_options, OptionsPassed}
 use Rattle.demands.proofs.Parts.{parts_of_lem}
 
 -- ---- what is made of a header g and its data part, however many bytes of options lie between

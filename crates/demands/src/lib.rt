@@ -1,1 +1,2 @@
 // What holds across the crates: theorems only, in proofs/.
+#![tactic(auto)]

@@ -1,6 +1,5 @@
 -- Each call for C is the call of `open` or `take` that it wraps, and the record goes through C unchanged. So demand 3 holds of the calls for C.
 use mathlib.Core.Path.{◌≡◌, refl, sym, ap, subst, ◌∙◌}
-use mathlib.Core.Bool.{true}
 use mathlib.Core.List.{List, [], ◌∷◌, ◌++◌}
 use Prim.Native.Nat.{ℕ, ◌<◌}
 use native.Mathlib.Omega.{arith}

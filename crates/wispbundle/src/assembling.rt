@@ -17,7 +17,7 @@ pub const SPOILT: u8 = 3;
 
 // What is kept of an assembly beside its payload buffer and its map. Where known is false, total does not count.
 #[repr(C)]
-#[derive(Drop)]
+#[derive(Clone, Copy, Drop)]
 pub struct wb_assembly {
     pub key: Key,
     pub known: bool,
@@ -27,7 +27,7 @@ pub struct wb_assembly {
 }
 
 #[repr(C)]
-#[derive(Drop)]
+#[derive(Clone, Copy, Drop)]
 pub struct wb_opened {
     pub status: u8,
     pub assembly: wb_assembly,
@@ -35,7 +35,7 @@ pub struct wb_opened {
 
 // The outcome is 1 (waiting), 2 (complete) or 3 (spoilt), and 0 on a refusal.
 #[repr(C)]
-#[derive(Drop)]
+#[derive(Clone, Copy, Drop)]
 pub struct wb_taken {
     pub status: u8,
     pub outcome: u8,
@@ -44,7 +44,7 @@ pub struct wb_taken {
 
 // The outcome is as in wb_taken. The length is that of a complete datagram, and else 0.
 #[repr(C)]
-#[derive(Drop)]
+#[derive(Clone, Copy, Drop)]
 pub struct wb_progress {
     pub status: u8,
     pub outcome: u8,
@@ -187,15 +187,13 @@ fn progressed(answer: Progress) -> wb_progress
     }
 }
 
-#[unsafe(no_mangle)]
-pub extern "C" fn wb_assembly_open(key: Key, payload: &mut [u8], map: &mut [u8]) -> wb_opened
+pub fn wb_assembly_open(key: Key, payload: &mut [u8], map: &mut [u8]) -> wb_opened
     ensures { AssemblyOpens key payload.old map.old result payload.new map.new }
 {
     opened(assembly::open(key, payload, map))
 }
 
-#[unsafe(no_mangle)]
-pub extern "C" fn wb_assembly_take(
+pub fn wb_assembly_take(
     before: wb_assembly,
     packet: &[u8],
     payload: &mut [u8],
@@ -206,12 +204,7 @@ pub extern "C" fn wb_assembly_take(
     taken(before, assembly::take(rec_of(before), packet, payload, map))
 }
 
-#[unsafe(no_mangle)]
-pub extern "C" fn wb_assembly_progress(
-    before: wb_assembly,
-    payload: &[u8],
-    map: &[u8],
-) -> wb_progress
+pub fn wb_assembly_progress(before: wb_assembly, payload: &[u8], map: &[u8]) -> wb_progress
     ensures { result ≡ progress_for (progress_answer capacity map_bytes (view (rec_of before) payload.now map.now)) }
 {
     progressed(assembly::progress(rec_of(before), payload, map))

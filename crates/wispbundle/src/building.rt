@@ -13,36 +13,31 @@ use ezpkt::ip4::Template;
 use ezpkt::{build, ip4};
 use pieces::{BlockRequest, Pieces};
 
-#[unsafe(no_mangle)]
-pub extern "C" fn wb_build_tcp(segment: TcpSegment, payload: &[u8], out: &mut [u8]) -> wb_length
+pub fn wb_build_tcp(segment: TcpSegment, payload: &[u8], out: &mut [u8]) -> wb_length
     ensures { Builds (Tcp segment) payload.now out.old result out.new }
 {
     lengths::built(build::build(Request::Tcp(segment), payload, out))
 }
 
-#[unsafe(no_mangle)]
-pub extern "C" fn wb_build_udp(datagram: UdpDatagram, payload: &[u8], out: &mut [u8]) -> wb_length
+pub fn wb_build_udp(datagram: UdpDatagram, payload: &[u8], out: &mut [u8]) -> wb_length
     ensures { Builds (Udp datagram) payload.now out.old result out.new }
 {
     lengths::built(build::build(Request::Udp(datagram), payload, out))
 }
 
-#[unsafe(no_mangle)]
-pub extern "C" fn wb_build_icmp(echo: IcmpEcho, payload: &[u8], out: &mut [u8]) -> wb_length
+pub fn wb_build_icmp(echo: IcmpEcho, payload: &[u8], out: &mut [u8]) -> wb_length
     ensures { Builds (Echo echo) payload.now out.old result out.new }
 {
     lengths::built(build::build(Request::Echo(echo), payload, out))
 }
 
-#[unsafe(no_mangle)]
-pub extern "C" fn wb_build_piece(piece: IpPiece, payload: &[u8], out: &mut [u8]) -> wb_length
+pub fn wb_build_piece(piece: IpPiece, payload: &[u8], out: &mut [u8]) -> wb_length
     ensures { Builds (Piece piece) payload.now out.old result out.new }
 {
     lengths::built(build::build(Request::Piece(piece), payload, out))
 }
 
-#[unsafe(no_mangle)]
-pub extern "C" fn wb_fragment(
+pub fn wb_fragment(
     template: Template,
     payload: &[u8],
     off: u16,
@@ -54,15 +49,13 @@ pub extern "C" fn wb_fragment(
     lengths::built(ip4::fragment(template, payload, off, len, out))
 }
 
-#[unsafe(no_mangle)]
-pub extern "C" fn wb_tail(template: Template, payload: &[u8], off: u16, out: &mut [u8]) -> wb_length
+pub fn wb_tail(template: Template, payload: &[u8], off: u16, out: &mut [u8]) -> wb_length
     ensures { Builds (tail_of template off (length payload.now)) payload.now out.old result out.new }
 {
     lengths::built(ip4::tail(template, payload, off, out))
 }
 
-#[unsafe(no_mangle)]
-pub extern "C" fn wb_datagram(template: Template, payload: &[u8], out: &mut [u8]) -> wb_length
+pub fn wb_datagram(template: Template, payload: &[u8], out: &mut [u8]) -> wb_length
     ensures { Builds (datagram_of template (length payload.now)) payload.now out.old result out.new }
 {
     lengths::built(ip4::datagram(template, payload, out))
@@ -70,7 +63,7 @@ pub extern "C" fn wb_datagram(template: Template, payload: &[u8], out: &mut [u8]
 
 // How many bytes were written for a list, or the refusal, with the index of the first of the list that it is for where it is for one.
 #[repr(C)]
-#[derive(Drop)]
+#[derive(Clone, Copy, Drop)]
 pub struct wb_listed {
     pub status: u8,
     pub length: usize,
@@ -99,8 +92,7 @@ fn listed(answer: Pieces) -> wb_listed
     }
 }
 
-#[unsafe(no_mangle)]
-pub extern "C" fn wb_fragments(
+pub fn wb_fragments(
     template: Template,
     payload: &[u8],
     list: &[BlockRequest],

@@ -21,15 +21,13 @@ fn captured(answer: Captured) -> wb_length
     }
 }
 
-#[unsafe(no_mangle)]
-pub extern "C" fn wb_pcap_header(out: &mut [u8]) -> wb_length
+pub fn wb_pcap_header(out: &mut [u8]) -> wb_length
     ensures { Writes (fitting 24 (length out.old)) file_header out.old result out.new }
 {
     captured(pcap::write_header(out))
 }
 
-#[unsafe(no_mangle)]
-pub extern "C" fn wb_pcap_record(sec: u32, usec: u32, packet: &[u8], out: &mut [u8]) -> wb_length
+pub fn wb_pcap_record(sec: u32, usec: u32, packet: &[u8], out: &mut [u8]) -> wb_length
     ensures { Records sec usec packet.now out.old result out.new }
 {
     captured(pcap::write_record(sec, usec, packet, out))

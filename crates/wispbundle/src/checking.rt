@@ -9,7 +9,7 @@ use inspect::check::Checked;
 
 // A status of 0 says that the packet is good; no_checksum, that it is UDP with a checksum field of 0.
 #[repr(C)]
-#[derive(Drop)]
+#[derive(Clone, Copy, Drop)]
 pub struct wb_checked {
     pub status: u8,
     pub no_checksum: bool,
@@ -34,8 +34,7 @@ fn checked(answer: Checked) -> wb_checked
     }
 }
 
-#[unsafe(no_mangle)]
-pub extern "C" fn wb_check(packet: &[u8]) -> wb_checked
+pub fn wb_check(packet: &[u8]) -> wb_checked
     ensures { result ≡ checked_for (check_answer packet.now) }
 {
     checked(check::check(packet))

@@ -21,15 +21,13 @@ fn dumped(answer: Number) -> wb_length
     }
 }
 
-#[unsafe(no_mangle)]
-pub extern "C" fn wb_hex_dump_len(packet: Packet, buf: &[u8]) -> wb_length
+pub fn wb_hex_dump_len(packet: Packet, buf: &[u8]) -> wb_length
     ensures { result ≡ length_for (if_valid packet (length buf.now) (gives (length (dump_of packet buf.now)))) }
 {
     dumped(packet.hex_dump_len(buf))
 }
 
-#[unsafe(no_mangle)]
-pub extern "C" fn wb_hex_dump(packet: Packet, buf: &[u8], out: &mut [u8]) -> wb_length
+pub fn wb_hex_dump(packet: Packet, buf: &[u8], out: &mut [u8]) -> wb_length
     ensures { Dumps packet buf.now out.old result out.new }
 {
     dumped(packet.hex_dump(buf, out))

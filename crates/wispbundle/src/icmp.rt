@@ -9,7 +9,7 @@ use ezpkt::icmp4::{EchoSent, IcmpFlow};
 
 // The flow, and the packet's length.
 #[repr(C)]
-#[derive(Drop)]
+#[derive(Clone, Copy, Drop)]
 pub struct wb_icmp_sent {
     pub status: u8,
     pub flow: IcmpFlow,
@@ -33,29 +33,25 @@ fn sent(before: IcmpFlow, answer: EchoSent) -> wb_icmp_sent
     }
 }
 
-#[unsafe(no_mangle)]
-pub extern "C" fn wb_icmp_new(cl: u32, sv: u32) -> IcmpFlow
+pub fn wb_icmp_new(cl: u32, sv: u32) -> IcmpFlow
     ensures { result ≡ new_icmp_flow cl sv }
 {
     IcmpFlow::new(cl, sv)
 }
 
-#[unsafe(no_mangle)]
-pub extern "C" fn wb_icmp_marked(flow: IcmpFlow, marks: Marks) -> IcmpFlow
+pub fn wb_icmp_marked(flow: IcmpFlow, marks: Marks) -> IcmpFlow
     ensures { result ≡ icmp_marked flow marks }
 {
     flow.marked(marks)
 }
 
-#[unsafe(no_mangle)]
-pub extern "C" fn wb_icmp_echo(flow: IcmpFlow, bytes: &[u8], out: &mut [u8]) -> wb_icmp_sent
+pub fn wb_icmp_echo(flow: IcmpFlow, bytes: &[u8], out: &mut [u8]) -> wb_icmp_sent
     ensures { IcmpSends flow (ping_of flow) (pinged flow) bytes.now out.old result out.new }
 {
     sent(flow, flow.echo(bytes, out))
 }
 
-#[unsafe(no_mangle)]
-pub extern "C" fn wb_icmp_echo_reply(flow: IcmpFlow, bytes: &[u8], out: &mut [u8]) -> wb_icmp_sent
+pub fn wb_icmp_echo_reply(flow: IcmpFlow, bytes: &[u8], out: &mut [u8]) -> wb_icmp_sent
     ensures { IcmpSends flow (pong_of flow) (ponged flow) bytes.now out.old result out.new }
 {
     sent(flow, flow.echo_reply(bytes, out))

@@ -7,7 +7,7 @@ use ezpkt::build::Built;
 
 // How many bytes were written, or would be.
 #[repr(C)]
-#[derive(Drop)]
+#[derive(Clone, Copy, Drop)]
 pub struct wb_length {
     pub status: u8,
     pub length: usize,

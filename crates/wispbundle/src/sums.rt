@@ -7,7 +7,7 @@ use pkt::ipv4;
 use pkt::ipv4::Sum;
 
 #[repr(C)]
-#[derive(Drop)]
+#[derive(Clone, Copy, Drop)]
 pub struct wb_sum {
     pub status: u8,
     pub sum: u16,
@@ -25,8 +25,7 @@ fn summed(answer: Sum) -> wb_sum
     }
 }
 
-#[unsafe(no_mangle)]
-pub extern "C" fn wb_ip_csum(buf: &[u8]) -> wb_sum
+pub fn wb_ip_csum(buf: &[u8]) -> wb_sum
     ensures { result ≡ sum_for (csum_answer buf.now) }
 {
     summed(ipv4::ip_csum(buf))

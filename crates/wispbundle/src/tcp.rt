@@ -11,7 +11,7 @@ use tcp4::{Header, PushedState, Sent, Seq, TcpFlow};
 
 // The flow, and where each packet ends in the buffer: 0 for one that is not there.
 #[repr(C)]
-#[derive(Drop)]
+#[derive(Clone, Copy, Drop)]
 pub struct wb_tcp_sent {
     pub status: u8,
     pub flow: TcpFlow,
@@ -22,7 +22,7 @@ pub struct wb_tcp_sent {
 
 // A sequence number for one side, or, where is_set is false, nothing for it.
 #[repr(C)]
-#[derive(Drop)]
+#[derive(Clone, Copy, Drop)]
 pub struct wb_seq {
     pub is_set: bool,
     pub number: u32,
@@ -30,7 +30,7 @@ pub struct wb_seq {
 
 // The flow with other numbers, and the old number of each side that was set.
 #[repr(C)]
-#[derive(Drop)]
+#[derive(Clone, Copy, Drop)]
 pub struct wb_pushed {
     pub flow: TcpFlow,
     pub cl: wb_seq,
@@ -98,98 +98,73 @@ fn both(answer: PushedState) -> wb_pushed
     }
 }
 
-#[unsafe(no_mangle)]
-pub extern "C" fn wb_tcp_new(
-    cl: SocketAddrV4,
-    sv: SocketAddrV4,
-    cl_seq: u32,
-    sv_seq: u32,
-) -> TcpFlow
+pub fn wb_tcp_new(cl: SocketAddrV4, sv: SocketAddrV4, cl_seq: u32, sv_seq: u32) -> TcpFlow
     ensures { result ≡ new_tcp_flow cl sv cl_seq sv_seq }
 {
     TcpFlow::new(cl, sv, cl_seq, sv_seq)
 }
 
-#[unsafe(no_mangle)]
-pub extern "C" fn wb_tcp_marked(flow: TcpFlow, marks: Marks) -> TcpFlow
+pub fn wb_tcp_marked(flow: TcpFlow, marks: Marks) -> TcpFlow
     ensures { result ≡ tcp_marked flow marks }
 {
     flow.marked(marks)
 }
 
-#[unsafe(no_mangle)]
-pub extern "C" fn wb_tcp_open(flow: TcpFlow, out: &mut [u8]) -> wb_tcp_sent
+pub fn wb_tcp_open(flow: TcpFlow, out: &mut [u8]) -> wb_tcp_sent
     ensures { TcpSends flow opening out.old result out.new }
 {
     sent(flow, flow.open(out))
 }
 
-#[unsafe(no_mangle)]
-pub extern "C" fn wb_tcp_client_close(flow: TcpFlow, out: &mut [u8]) -> wb_tcp_sent
+pub fn wb_tcp_client_close(flow: TcpFlow, out: &mut [u8]) -> wb_tcp_sent
     ensures { TcpSends flow (closing Client) out.old result out.new }
 {
     sent(flow, flow.client_close(out))
 }
 
-#[unsafe(no_mangle)]
-pub extern "C" fn wb_tcp_server_close(flow: TcpFlow, out: &mut [u8]) -> wb_tcp_sent
+pub fn wb_tcp_server_close(flow: TcpFlow, out: &mut [u8]) -> wb_tcp_sent
     ensures { TcpSends flow (closing Server) out.old result out.new }
 {
     sent(flow, flow.server_close(out))
 }
 
-#[unsafe(no_mangle)]
-pub extern "C" fn wb_tcp_client_reset(flow: TcpFlow, out: &mut [u8]) -> wb_tcp_sent
+pub fn wb_tcp_client_reset(flow: TcpFlow, out: &mut [u8]) -> wb_tcp_sent
     ensures { TcpSends flow (emit Client RST 0 [] ∷ []) out.old result out.new }
 {
     sent(flow, flow.client_reset(out))
 }
 
-#[unsafe(no_mangle)]
-pub extern "C" fn wb_tcp_server_reset(flow: TcpFlow, out: &mut [u8]) -> wb_tcp_sent
+pub fn wb_tcp_server_reset(flow: TcpFlow, out: &mut [u8]) -> wb_tcp_sent
     ensures { TcpSends flow (emit Server RST 0 [] ∷ []) out.old result out.new }
 {
     sent(flow, flow.server_reset(out))
 }
 
-#[unsafe(no_mangle)]
-pub extern "C" fn wb_tcp_client_ack(flow: TcpFlow, out: &mut [u8]) -> wb_tcp_sent
+pub fn wb_tcp_client_ack(flow: TcpFlow, out: &mut [u8]) -> wb_tcp_sent
     ensures { TcpSends flow (emit Client ACK 0 [] ∷ []) out.old result out.new }
 {
     sent(flow, flow.client_ack(out))
 }
 
-#[unsafe(no_mangle)]
-pub extern "C" fn wb_tcp_server_ack(flow: TcpFlow, out: &mut [u8]) -> wb_tcp_sent
+pub fn wb_tcp_server_ack(flow: TcpFlow, out: &mut [u8]) -> wb_tcp_sent
     ensures { TcpSends flow (emit Server ACK 0 [] ∷ []) out.old result out.new }
 {
     sent(flow, flow.server_ack(out))
 }
 
-#[unsafe(no_mangle)]
-pub extern "C" fn wb_tcp_client_data_segment(
-    flow: TcpFlow,
-    bytes: &[u8],
-    out: &mut [u8],
-) -> wb_tcp_sent
+pub fn wb_tcp_client_data_segment(flow: TcpFlow, bytes: &[u8], out: &mut [u8]) -> wb_tcp_sent
     ensures { TcpSends flow (emit Client (PSH + ACK) 0 bytes.now ∷ []) out.old result out.new }
 {
     sent(flow, flow.client_data_segment(bytes, out))
 }
 
-#[unsafe(no_mangle)]
-pub extern "C" fn wb_tcp_server_data_segment(
-    flow: TcpFlow,
-    bytes: &[u8],
-    out: &mut [u8],
-) -> wb_tcp_sent
+pub fn wb_tcp_server_data_segment(flow: TcpFlow, bytes: &[u8], out: &mut [u8]) -> wb_tcp_sent
     ensures { TcpSends flow (emit Server (PSH + ACK) 0 bytes.now ∷ []) out.old result out.new }
 {
     sent(flow, flow.server_data_segment(bytes, out))
 }
 
-#[unsafe(no_mangle)]
-pub extern "C" fn wb_tcp_client_message(
+pub fn wb_tcp_client_message(
     flow: TcpFlow,
     bytes: &[u8],
     send_ack: bool,
@@ -201,8 +176,7 @@ pub extern "C" fn wb_tcp_client_message(
     sent(flow, flow.client_message(bytes, send_ack, frag_off, out))
 }
 
-#[unsafe(no_mangle)]
-pub extern "C" fn wb_tcp_server_message(
+pub fn wb_tcp_server_message(
     flow: TcpFlow,
     bytes: &[u8],
     send_ack: bool,
@@ -214,43 +188,37 @@ pub extern "C" fn wb_tcp_server_message(
     sent(flow, flow.server_message(bytes, send_ack, frag_off, out))
 }
 
-#[unsafe(no_mangle)]
-pub extern "C" fn wb_tcp_client_hole(flow: TcpFlow, bytes: u32) -> TcpFlow
+pub fn wb_tcp_client_hole(flow: TcpFlow, bytes: u32) -> TcpFlow
     ensures { result ≡ advance Client bytes flow }
 {
     flow.client_hole(bytes)
 }
 
-#[unsafe(no_mangle)]
-pub extern "C" fn wb_tcp_server_hole(flow: TcpFlow, bytes: u32) -> TcpFlow
+pub fn wb_tcp_server_hole(flow: TcpFlow, bytes: u32) -> TcpFlow
     ensures { result ≡ advance Server bytes flow }
 {
     flow.server_hole(bytes)
 }
 
-#[unsafe(no_mangle)]
-pub extern "C" fn wb_tcp_client_hdr(flow: TcpFlow, dlen: u32, csum: u16) -> Header
+pub fn wb_tcp_client_hdr(flow: TcpFlow, dlen: u32, csum: u16) -> Header
     ensures { result ≡ headed flow Client dlen csum }
 {
     flow.client_hdr(dlen, csum)
 }
 
-#[unsafe(no_mangle)]
-pub extern "C" fn wb_tcp_server_hdr(flow: TcpFlow, dlen: u32, csum: u16) -> Header
+pub fn wb_tcp_server_hdr(flow: TcpFlow, dlen: u32, csum: u16) -> Header
     ensures { result ≡ headed flow Server dlen csum }
 {
     flow.server_hdr(dlen, csum)
 }
 
-#[unsafe(no_mangle)]
-pub extern "C" fn wb_tcp_push_state(flow: TcpFlow, cl_seq: wb_seq, sv_seq: wb_seq) -> wb_pushed
+pub fn wb_tcp_push_state(flow: TcpFlow, cl_seq: wb_seq, sv_seq: wb_seq) -> wb_pushed
     ensures { result ≡ pushed_for (pushed flow (seq_from cl_seq) (seq_from sv_seq)) }
 {
     both(flow.push_state(seq(cl_seq), seq(sv_seq)))
 }
 
-#[unsafe(no_mangle)]
-pub extern "C" fn wb_tcp_pop_state(flow: TcpFlow, cl_seq: wb_seq, sv_seq: wb_seq) -> TcpFlow
+pub fn wb_tcp_pop_state(flow: TcpFlow, cl_seq: wb_seq, sv_seq: wb_seq) -> TcpFlow
     ensures { result ≡ popped flow (seq_from cl_seq) (seq_from sv_seq) }
 {
     flow.pop_state(seq(cl_seq), seq(sv_seq))

@@ -12,7 +12,7 @@ use ezpkt::{Marks, SocketAddrV4};
 
 // The choices that go with a datagram. Where other_source is false, srcip does not count.
 #[repr(C)]
-#[derive(Drop)]
+#[derive(Clone, Copy, Drop)]
 pub struct wb_choices {
     pub other_source: bool,
     pub srcip: u32,
@@ -36,22 +36,19 @@ fn choices(given: wb_choices) -> Choices
     }
 }
 
-#[unsafe(no_mangle)]
-pub extern "C" fn wb_udp_new(cl: SocketAddrV4, sv: SocketAddrV4) -> UdpFlow
+pub fn wb_udp_new(cl: SocketAddrV4, sv: SocketAddrV4) -> UdpFlow
     ensures { result ≡ new_udp_flow cl sv }
 {
     UdpFlow::new(cl, sv)
 }
 
-#[unsafe(no_mangle)]
-pub extern "C" fn wb_udp_marked(flow: UdpFlow, marks: Marks) -> UdpFlow
+pub fn wb_udp_marked(flow: UdpFlow, marks: Marks) -> UdpFlow
     ensures { result ≡ udp_marked flow marks }
 {
     flow.marked(marks)
 }
 
-#[unsafe(no_mangle)]
-pub extern "C" fn wb_udp_client_dgram(
+pub fn wb_udp_client_dgram(
     flow: UdpFlow,
     bytes: &[u8],
     given: wb_choices,
@@ -62,8 +59,7 @@ pub extern "C" fn wb_udp_client_dgram(
     lengths::built(flow.client_dgram(bytes, choices(given), out))
 }
 
-#[unsafe(no_mangle)]
-pub extern "C" fn wb_udp_server_dgram(
+pub fn wb_udp_server_dgram(
     flow: UdpFlow,
     bytes: &[u8],
     given: wb_choices,

@@ -5,8 +5,7 @@ ghost use Rattle.wispbundle.specs.Version.{version};
 // One more with every change of a struct or of a call, so that a header can be told from an older one.
 pub const VERSION: u32 = 8;
 
-#[unsafe(no_mangle)]
-pub extern "C" fn wb_version() -> u32
+pub fn wb_version() -> u32
     ensures { result ≡ version }
 {
     VERSION

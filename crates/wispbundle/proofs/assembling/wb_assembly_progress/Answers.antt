@@ -1,0 +1,7 @@
+-- What the wrapped call answers, of the record that C handed in, is told to C.
+use Rattle.wispbundle.specs.Answers.{progress_for}
+use mathlib.Core.Path.{ap, ◌∙◌}
+use Rattle.wispbundle.proofs.assembling.wb_assembly_progress.Goals as goal
+
+pub returns : goal.returns
+returns c = c.progressed.ensures ∙ ap progress_for (rw c.rec_of.ensures at c.progress.ensures)

@@ -1,0 +1,5 @@
+-- The numbers that C gave go in, and the old ones come back.
+use Rattle.wispbundle.proofs.tcp.wb_tcp_push_state.Goals as goal
+
+pub returns : goal.returns
+returns c = rw (c.both.ensures, c.push_state.ensures, c.seq-2.ensures, c.seq.ensures)
