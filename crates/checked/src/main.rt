@@ -1,5 +1,7 @@
 // Every answer of the check, run: each line says what is true of a packet, its length, which without
 // options is that of the smallest such packet, and what the check answers.
+#![tactic(auto)]
+
 mod options;
 mod shown;
 

@@ -1,8 +1,8 @@
 // Packets with IPv4 options, and first bytes.
-use crate::shown::{say, show};
+use crate::shown::{STDOUT_FILENO, say, show};
 use inspect::check;
 use inspect::check::Checked;
-use libc::STDOUT_FILENO;
+use pkt::copying::copy;
 
 // Whether 5 is not what a packet of 20 bytes is refused by, if this is its first byte and the others are zero.
 fn is_ipv4(first: u8) -> bool {
@@ -60,7 +60,7 @@ fn put_bytes(bytes: &[u8], at: usize, out: &mut [u8]) {
     if at <= out.len() {
         let rest = &mut out[at..];
         if bytes.len() <= rest.len() {
-            bytes::copy(bytes, rest);
+            copy(bytes, rest);
         }
     }
 }

@@ -1,7 +1,8 @@
 // A line for each packet.
 use inspect::check;
 use inspect::check::Checked;
-use libc::STDOUT_FILENO;
+
+pub(crate) const STDOUT_FILENO: i32 = 1;
 
 // Words alone.
 pub(crate) fn say(words: &[u8]) {

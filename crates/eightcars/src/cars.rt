@@ -7,7 +7,7 @@ use ezpkt::{Marks, build, ip4, part};
 const CORE: u32 = 0x0a000064;
 
 // A packet: the first n bytes.
-#[derive(Drop)]
+#[derive(Clone, Copy, Drop)]
 pub(crate) struct Whole {
     pub(crate) bytes: [u8; 80],
     pub(crate) n: usize,

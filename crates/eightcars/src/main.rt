@@ -1,4 +1,6 @@
 // Telemetry of eight cars, cut and mixed, and every refusal of a table, run: each line is a call and what it answers.
+#![tactic(auto)]
+
 mod cars;
 mod steps;
 mod words;

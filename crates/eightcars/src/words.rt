@@ -1,6 +1,7 @@
 // What is written: words, numbers and answers.
-use libc::STDOUT_FILENO;
 use table::{Gone, Stepped};
+
+const STDOUT_FILENO: i32 = 1;
 
 pub(crate) fn say(words: &[u8]) {
     io::write_all(STDOUT_FILENO, words);

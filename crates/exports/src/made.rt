@@ -1,11 +1,12 @@
 // What captures are made of.
+use pkt::copying::copy;
 
 // Bytes at a place, where there is room for them.
 pub(crate) fn put_bytes(bytes: &[u8], at: usize, out: &mut [u8]) {
     if at <= out.len() {
         let rest = &mut out[at..];
         if bytes.len() <= rest.len() {
-            bytes::copy(bytes, rest);
+            copy(bytes, rest);
         }
     }
 }

@@ -1,5 +1,6 @@
 // What is written: words, numbers and bytes.
-use libc::STDOUT_FILENO;
+
+const STDOUT_FILENO: i32 = 1;
 
 // Words alone.
 pub(crate) fn say(words: &[u8]) {

@@ -41,20 +41,20 @@ front_packet r (whole rs) = refl
 front_packet r (broken_after rs) = refl
 
 -- what steps give, from a place on
-packets_steps : (m : ℕ) (l : List ℕ) (at k : ℕ) (rs : Records) → length (drop at l) ≤ m → Steps l at k rs → packets_from m k at l ≡ packets_in rs
+packets_steps : (l : List ℕ) (m at k : ℕ) (rs : Records) → length (drop at l) ≤ m → Steps l at k rs → packets_from m k at l ≡ packets_in rs
 unfolding packets_in
-packets_steps m l _ _ _ f (ends at k e) = packets_end m k at l (fails _ (λ t. true≢false (cc (sym e ∙ there_found l at k t))))
-packets_steps m l _ _ _ f (breaks at k e) = packets_end m k at l (fails _ (λ t. true≢false (cc (sym e ∙ there_found l at k t))))
-packets_steps zero l _ _ _ f (goes at k s rs e n t) =
+packets_steps l m _ _ _ f (ends at k e) = packets_end m k at l (fails _ (λ t. true≢false (cc (sym e ∙ there_found l at k t))))
+packets_steps l m _ _ _ f (breaks at k e) = packets_end m k at l (fails _ (λ t. true≢false (cc (sym e ∙ there_found l at k t))))
+packets_steps l zero _ _ _ f (goes at k s rs e n t) =
     let w = spot_within l at (found_there l at k s e) in
     absurd (omega (arith, w.0, length-drop at l))
-packets_steps (suc m) l _ _ _ f (goes at k s rs e n t) =
+packets_steps l (suc m) _ _ _ f (goes at k s rs e n t) =
     let h = found_there l at k s e in
     let w = spot_within l at h in
     let is : spot_at l at k ≡ s = cc (sym (there_found l at k h) ∙ e) in
     packets_turn m k at l h
     ∙ ap₂ (λ (x : Spot) (ps : List (List ℕ)). packet_at l x ∷ ps) is
-    (packets_steps m l (past_at l at) (suc k) rs (omega (arith, w.0, w.1, length-drop at l, length-drop (past_at l at) l)) t)
+    (packets_steps l m (past_at l at) (suc k) rs (omega (arith, w.0, w.1, length-drop at l, length-drop (past_at l at) l)) t)
     ∙ sym (front_packet (recorded_at l s) rs)
 
 -- .. where no record is broken
@@ -69,6 +69,6 @@ packets_read l rs e = go (starts_with file_header l) refl
     go : (b : Bool) → starts_with file_header l ≡ b → packets_of l ≡ map (λ r. r.stamped.packet) rs
     go true h =
         let w : Records = records_of (drop header_size l) in
-        packets_steps (length l) l (open_at l) 0 w (omega (arith, length-drop (open_at l) l)) (steps_read.reads l h)
+        packets_steps l (length l) (open_at l) 0 w (omega (arith, length-drop (open_at l) l)) (steps_read.reads l h)
         ∙ packets_whole w rs (sym (pick_yes _ _ h) ∙ e)
     go false h = let z : ◌≡◌ {A = ℕ} 0 1 = cc (sym (pick_no _ (refused_whole 23) h) ∙ e) in absurd (omega arith)

@@ -3,13 +3,14 @@ ghost use Rattle.std.specs.Prelude.{◌+◌, ◌≤◌, ◌≡◌, ◌++◌, len
 ghost use Rattle.pkt.specs.Written.{written};
 ghost use Rattle.flowreport.specs.Gather.{GatherAsks, Gathers};
 
+use pkt::copying::copy;
 use reading::Step;
 
 // The bytes of a record's header, which stands before its packet.
 const HEADER: usize = 16;
 
 // How many packets there are, and the step that found no further record.
-#[derive(Drop)]
+#[derive(Clone, Copy, Drop)]
 pub struct Gathered {
     pub packets: usize,
     pub last: Step,
@@ -21,7 +22,7 @@ fn put(packet: &[u8], n: usize, out: &mut [u8]) -> usize
     ensures { (result ≡ n + length packet.now)
         × (out.new ≡ take n out.old ++ written packet.now (drop n out.old)) }
 {
-    bytes::copy(packet, &mut out[n..]);
+    copy(packet, &mut out[n..]);
     n + packet.len()
 }
 

@@ -1,4 +1,6 @@
 // Reads a capture, and prints the report of one TCP flow in it.
+#![tactic(auto)]
+
 mod gather;
 mod table;
 
@@ -6,11 +8,17 @@ ghost use Rattle.std.specs.Prelude.{◌≤◌, length};
 ghost use Rattle.flowreport.specs.Gather.{GatherAsks};
 
 use ezpkt::SocketAddrV4;
-use libc::{STDERR_FILENO, STDIN_FILENO};
 use pkt::refusal;
 use reading::Step;
 use reporting::Reported;
+use std::env::FillError;
+use std::io::Error;
+use std::rt::Env;
 use words::Address;
+
+const STDERR_FILENO: i32 = 2;
+
+const STDIN_FILENO: i32 = 0;
 
 // The bytes of the longest capture that is taken, and the most records in one: each has a header of 16 bytes.
 const MOST: usize = 2097152;
@@ -18,6 +26,11 @@ const MOST: usize = 2097152;
 const MOST_RECORDS: usize = MOST / 16;
 
 const ROOM: usize = MOST + 1;
+
+// Says on standard error what failed, and why.
+fn say_failed(rt: &impl Eprint, what: &str, e: Error) {
+    let _ = eprintln!(rt; "flowreport: {what}: {e}");
+}
 
 fn say(words: &[u8]) {
     io::write_all(STDERR_FILENO, words);
@@ -54,11 +67,17 @@ fn say_refused_at(number: u8, record: usize) {
 }
 
 // The report of packets with these ends, or why there is none.
-fn report(packets: &[u8], ends: &[usize], cl: SocketAddrV4, sv: SocketAddrV4) {
+fn report(
+    rt: &(impl Print + Eprint),
+    packets: &[u8],
+    ends: &[usize],
+    cl: SocketAddrV4,
+    sv: SocketAddrV4,
+) {
     match reporting::flow_report(packets, ends, cl, sv) {
         Reported::Is(r) => {
-            if !table::show(r) {
-                os::fail(b"flowreport: standard output");
+            if let Err(e) = table::show(rt, r) {
+                say_failed(rt, "standard output", e);
             }
         }
         Reported::Refused(number) => say_refused(number),
@@ -67,15 +86,22 @@ fn report(packets: &[u8], ends: &[usize], cl: SocketAddrV4, sv: SocketAddrV4) {
 }
 
 // The report of a capture's packets, which are put end to end into out, with their ends; or why there is none.
-fn report_in(capture: &[u8], out: &mut [u8], ends: &mut [usize], cl: SocketAddrV4, sv: SocketAddrV4)
+fn report_in(
+    rt: &(impl Print + Eprint),
+    capture: &[u8],
+    out: &mut [u8],
+    ends: &mut [usize],
+    cl: SocketAddrV4,
+    sv: SocketAddrV4,
+)
     requires { GatherAsks capture.now out.old ends.old }
 {
     let found = gather::gather(capture, &mut *out, &mut *ends);
     let packets = found.packets;
     let last = found.last;
     match last {
-        Step::End => report(out, &ends[0..packets], cl, sv),
-        Step::Record(_) => report(out, &ends[0..packets], cl, sv),
+        Step::End => report(rt, out, &ends[0..packets], cl, sv),
+        Step::Record(_) => report(rt, out, &ends[0..packets], cl, sv),
         Step::Refused(number) => say_refused(number),
         Step::RefusedAt(number, record) => say_refused_at(number, record),
     }
@@ -83,6 +109,7 @@ fn report_in(capture: &[u8], out: &mut [u8], ends: &mut [usize], cl: SocketAddrV
 
 // The arrays as slices.
 fn report_within(
+    rt: &(impl Print + Eprint),
     capture: &[u8],
     out: &mut [u8; MOST],
     ends: &mut [usize; MOST_RECORDS],
@@ -91,40 +118,45 @@ fn report_within(
 )
     requires { length capture.now ≤ 2097152 }
 {
-    report_in(capture, out, ends, cl, sv);
+    report_in(rt, capture, out, ends, cl, sv);
 }
 
 // The report of a capture, or why there is none.
-fn run(capture: &[u8], cl: SocketAddrV4, sv: SocketAddrV4)
+fn run(rt: &(impl Print + Eprint), capture: &[u8], cl: SocketAddrV4, sv: SocketAddrV4)
     requires { length capture.now ≤ 2097152 }
 {
     let mut out = [0u8; MOST];
     let mut ends = [0usize; MOST_RECORDS];
-    report_within(capture, &mut out, &mut ends, cl, sv);
+    report_within(rt, capture, &mut out, &mut ends, cl, sv);
 }
 
 // Reads a capture; a byte more than the longest has shows that there is more.
-fn read_into(input: &mut [u8], cl: SocketAddrV4, sv: SocketAddrV4) {
+fn read_into(rt: &(impl Print + Eprint), input: &mut [u8], cl: SocketAddrV4, sv: SocketAddrV4) {
     let n = io::read_full(STDIN_FILENO, &mut *input);
     if MOST < n {
         say(b"flowreport: more than 2,097,152 bytes of input\n");
         return;
     }
-    run(&input[0..n], cl, sv);
+    run(rt, &input[0..n], cl, sv);
 }
 
 // The array as a slice.
-fn read_within(input: &mut [u8; ROOM], cl: SocketAddrV4, sv: SocketAddrV4) {
-    read_into(input, cl, sv);
+fn read_within(
+    rt: &(impl Print + Eprint),
+    input: &mut [u8; ROOM],
+    cl: SocketAddrV4,
+    sv: SocketAddrV4,
+) {
+    read_into(rt, input, cl, sv);
 }
 
-fn read_capture(cl: SocketAddrV4, sv: SocketAddrV4) {
+fn read_capture(rt: &(impl Print + Eprint), cl: SocketAddrV4, sv: SocketAddrV4) {
     let mut input = [0u8; ROOM];
-    read_within(&mut input, cl, sv);
+    read_within(rt, &mut input, cl, sv);
 }
 
 // Both addresses, and then the capture.
-fn with_words(client: &[u8], server: &[u8]) {
+fn with_words(rt: &(impl Print + Eprint), client: &[u8], server: &[u8]) {
     let Address::Is(cl) = words::read_address(client) else {
         say_wanted();
         return;
@@ -133,17 +165,34 @@ fn with_words(client: &[u8], server: &[u8]) {
         say_wanted();
         return;
     };
-    read_capture(cl, sv);
+    read_capture(rt, cl, sv);
 }
 
-fn main() {
+// The word of this number at the start of buf, and how long it is: 0 where it is missing or longer than buf.
+fn word(rt: &impl Env, i: usize, buf: &mut [u8]) -> usize
+    ensures { result ≤ length buf.new }
+{
+    rt.arg(i, buf).unwrap_or(0)
+}
+
+// How many words there are, with the program's name.
+fn word_count(rt: &impl Env) -> usize {
+    for i in 0..usize::MAX {
+        if let Err(FillError::NotPresent) = rt.arg(i, &mut [0u8; 1]) {
+            return i;
+        }
+    }
+    usize::MAX
+}
+
+fn main(rt: HostRuntime) {
     let mut client = [0u8; words::LONGEST];
     let mut server = [0u8; words::LONGEST];
-    let a = os::arg(1, &mut client);
-    let b = os::arg(2, &mut server);
-    if os::arg_count() != 3 {
+    let a = word(&rt, 1, &mut client);
+    let b = word(&rt, 2, &mut server);
+    if word_count(&rt) != 3 {
         say_wanted();
         return;
     }
-    with_words(&client[..a], &server[..b]);
+    with_words(&rt, &client[..a], &server[..b]);
 }

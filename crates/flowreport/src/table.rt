@@ -1,42 +1,28 @@
 // A report as a table: a line for each number, the client's and the server's in columns of their own.
-use libc::STDOUT_FILENO;
 use reporting::Report;
+use std::io::Error;
 
-fn say(words: &[u8]) -> bool {
-    io::write_all(STDOUT_FILENO, words)
+// Each number stands at the right of a column of twelve.
+fn say_pair(rt: &impl Print, words: &str, cl: usize, sv: usize) -> Result<(), Error> {
+    println!(rt; "{words:12}{cl:12}{sv:12}")
 }
 
-// A number at the right of a column of twelve.
-fn say_right(n: usize) -> bool {
-    let blanks = *b"            ";
-    let mut digits = [0u8; 20];
-    let size = io::decimal(n as u64, &mut digits);
-    if size < blanks.len() {
-        say(&blanks[size..]);
-    }
-    io::print_decimal(STDOUT_FILENO, n as u64)
+fn say_one(rt: &impl Print, words: &str, n: usize) -> Result<(), Error> {
+    println!(rt; "{words:12}{n:12}")
 }
 
-fn say_pair(words: &[u8], cl: usize, sv: usize) -> bool {
-    say(words) & say_right(cl) & say_right(sv) & say(b"\n")
-}
-
-fn say_one(words: &[u8], n: usize) -> bool {
-    say(words) & say_right(n) & say(b"\n")
-}
-
-// The whole table; whether all of it was written.
-pub(crate) fn show(r: Report) -> bool {
+// The whole table, or why it could not be written.
+pub(crate) fn show(rt: &impl Print, r: Report) -> Result<(), Error> {
     let cl = r.cl;
     let sv = r.sv;
-    say(b"                  client      server\n")
-        & say_pair(b"segments    ", cl.segments, sv.segments)
-        & say_pair(b"bytes       ", cl.bytes, sv.bytes)
-        & say_pair(b"SYNs        ", cl.syns, sv.syns)
-        & say_pair(b"FINs        ", cl.fins, sv.fins)
-        & say_pair(b"expected    ", cl.expected, sv.expected)
-        & say_pair(b"early       ", cl.early, sv.early)
-        & say_pair(b"late        ", cl.late, sv.late)
-        & say_one(b"failed      ", r.failed)
-        & say_one(b"other flows ", r.others)
+    rt.println("                  client      server")?;
+    say_pair(rt, "segments", cl.segments, sv.segments)?;
+    say_pair(rt, "bytes", cl.bytes, sv.bytes)?;
+    say_pair(rt, "SYNs", cl.syns, sv.syns)?;
+    say_pair(rt, "FINs", cl.fins, sv.fins)?;
+    say_pair(rt, "expected", cl.expected, sv.expected)?;
+    say_pair(rt, "early", cl.early, sv.early)?;
+    say_pair(rt, "late", cl.late, sv.late)?;
+    say_one(rt, "failed", r.failed)?;
+    say_one(rt, "other flows", r.others)
 }

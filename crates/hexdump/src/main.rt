@@ -1,6 +1,11 @@
 // Reads a packet, and writes its dump, as of a packet behind 16 bytes of headroom.
-use libc::{STDIN_FILENO, STDOUT_FILENO};
+#![tactic(auto)]
+
 use packet::{Made, Number, Packet, Pushed};
+
+const STDIN_FILENO: i32 = 0;
+
+const STDOUT_FILENO: i32 = 1;
 
 fn show(p: Packet, buf: &[u8]) {
     let mut out = [0u8; 20000];

@@ -7,13 +7,13 @@ use feed::Feed;
 use words::{Address, Number};
 
 // What the words ask for: a feed before its first frame, and the bytes of a frame.
-#[derive(Drop)]
+#[derive(Clone, Copy, Drop)]
 pub struct Setup {
     pub feed: Feed,
     pub size: usize,
 }
 
-#[derive(Drop)]
+#[derive(Clone, Copy, Drop)]
 pub enum Words {
     Good(Setup),
     Wrong,

@@ -1,11 +1,14 @@
 // Frames of each kind and every refusal of a lap feed, run: standard output is one capture, and what the last frame carries are the numbers that
 // the refused ones before it were answered.
+#![tactic(auto)]
+
 mod refused;
 
 use ezpkt::part::{back, front};
 use ezpkt::{Marks, SocketAddrV4};
 use feed::{Fed, Feed};
-use libc::STDOUT_FILENO;
+
+const STDOUT_FILENO: i32 = 1;
 
 const CORE: SocketAddrV4 = SocketAddrV4 {
     ip: 0x0a000002,

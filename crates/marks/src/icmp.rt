@@ -5,14 +5,14 @@ use ezpkt::icmp4::{EchoSent, IcmpFlow};
 use ezpkt::part::front;
 
 // The flow after a packet, and how many bytes it has, or 0.
-#[derive(Drop)]
+#[derive(Clone, Copy, Drop)]
 struct Run {
     flow: IcmpFlow,
     end: usize,
 }
 
 // The same calls on two flows.
-#[derive(Drop)]
+#[derive(Clone, Copy, Drop)]
 struct Flows {
     marked: IcmpFlow,
     plain: IcmpFlow,

@@ -1,5 +1,7 @@
 // Every call of the three flows, made with a type of service of 16 and a time to live of 1, and again with those of a new flow: of each packet its
 // length, the bytes 1, 8, 10 and 11 of both, and whether all other bytes are alike.
+#![tactic(auto)]
+
 mod icmp;
 mod shown;
 mod tcp;

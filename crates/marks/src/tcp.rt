@@ -6,7 +6,7 @@ use ezpkt::{Marks, SocketAddrV4};
 use tcp4::{Sent, Seq, TcpFlow};
 
 // The flow after a call, and where up to three packets end: what there is not ends where the one before it does.
-#[derive(Drop)]
+#[derive(Clone, Copy, Drop)]
 struct Run {
     flow: TcpFlow,
     first: usize,
@@ -15,7 +15,7 @@ struct Run {
 }
 
 // The same calls on two flows.
-#[derive(Drop)]
+#[derive(Clone, Copy, Drop)]
 struct Flows {
     marked: TcpFlow,
     plain: TcpFlow,

@@ -1,10 +1,16 @@
 // Mends a capture: the checksums of its packets are worked out anew. The mended capture goes to standard output, and each change is a line on
 // standard error.
+#![tactic(auto)]
+
 ghost use Rattle.std.specs.Prelude.{◌≤◌, length};
 
-use libc::{STDERR_FILENO, STDIN_FILENO, STDOUT_FILENO};
 use mending::Mended;
 use pkt::refusal;
+use std::env::FillError;
+use std::io::{Error, Read};
+use std::rt::Env;
+
+const STDERR_FILENO: i32 = 2;
 
 // The bytes of the longest capture that is taken.
 const MOST: usize = 65536;
@@ -13,30 +19,33 @@ const MOST: usize = 65536;
 // least 28, the IPv4 header's 20 and 8 of its transport: there are at most 65,512 / 44 = 1,488 of them. Each has at most two changes: 2,976.
 const MOST_CHANGES: usize = 2 * ((MOST - 24) / (16 + 28));
 
-// What was read: n bytes, and whether reading failed.
-#[derive(Drop)]
+// What was read: n bytes, and why reading failed, if it did.
+#[derive(Clone, Copy, Drop)]
 struct Got {
     n: usize,
-    failed: bool,
+    failed: Option<Error>,
+}
+
+// Says on standard error what failed, and why.
+fn say_failed(rt: &impl Eprint, what: &str, e: Error) {
+    let _ = eprintln!(rt; "mend: {what}: {e}");
 }
 
 // Reads until the buffer is full or the input ends.
-fn fill(buf: &mut [u8]) -> Got
+fn fill(from: &mut impl Read, buf: &mut [u8]) -> Got
     ensures { result.n ≤ length buf.new }
 {
     let mut n = 0;
     while n < buf.len() {
-        let got = libc::read(STDIN_FILENO, &mut buf[n..]);
-        if got < 0 {
-            return Got { n, failed: true };
+        match from.read(&mut buf[n..]) {
+            Ok(0) => break,
+            Ok(more) => n += more,
+            Err(e) => {
+                return Got { n, failed: Some(e) };
+            }
         }
-        let more = io::count(got, &buf[n..]);
-        if more == 0 {
-            break;
-        }
-        n += more;
     }
-    Got { n, failed: false }
+    Got { n, failed: None }
 }
 
 // Words alone.
@@ -94,9 +103,9 @@ fn say_refused_at(number: u8, record: usize) {
 }
 
 // The mended capture, and a line for each change.
-fn write(capture: &[u8], changes: &[[usize; 4]]) {
-    if !io::write_all(STDOUT_FILENO, capture) {
-        os::fail(b"mend: standard output");
+fn write(rt: &(impl Print + Eprint), capture: &[u8], changes: &[[usize; 4]]) {
+    if let Err(e) = rt.write_all(capture) {
+        say_failed(rt, "standard output", e);
         return;
     }
     for i in 0..changes.len() {
@@ -105,32 +114,37 @@ fn write(capture: &[u8], changes: &[[usize; 4]]) {
 }
 
 // Mends a capture, or says why not.
-fn run(capture: &[u8]) {
+fn run(rt: &(impl Print + Eprint), capture: &[u8]) {
     let mut out = [0u8; MOST];
     let mut rows = [[0usize; 4]; MOST_CHANGES];
     match mending::mend(capture, &mut out, &mut rows) {
-        Mended::Written { bytes, changes } => write(&out[0..bytes], &rows[0..changes]),
+        Mended::Written { bytes, changes } => write(rt, &out[0..bytes], &rows[0..changes]),
         Mended::Refused(number) => say_refused(number),
         Mended::RefusedAt(number, record) => say_refused_at(number, record),
     }
 }
 
+// Whether there are words behind the program's name.
+fn has_words(rt: &impl Env) -> bool {
+    !matches!(rt.arg(1, &mut [0u8; 1]), Err(FillError::NotPresent))
+}
+
 // Reads a capture; a byte more than the longest has shows that there is more.
-fn main() {
-    if 1 < os::arg_count() {
+fn main(rt: HostRuntime) {
+    if has_words(&rt) {
         say(b"mend wants no words, as in: mend < old.pcap > new.pcap\n");
         return;
     }
     let mut input = [0u8; MOST + 1];
-    let got = fill(&mut input);
+    let got = fill(&mut rt.stdin(), &mut input);
     let n = got.n;
-    if got.failed {
-        os::fail(b"mend: standard input");
+    if let Some(e) = got.failed {
+        say_failed(&rt, "standard input", e);
         return;
     }
     if MOST < n {
         say(b"mend: more than 65,536 bytes of input\n");
         return;
     }
-    run(&input[0..n]);
+    run(&rt, &input[0..n]);
 }

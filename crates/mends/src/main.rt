@@ -1,5 +1,7 @@
 // Captures mended, run: a line for each says how many bytes it has and what the mender answers, and whether all that was lent beyond what is written
 // is as it was before. Below the line of a mended one stand its changes, the places whose bytes changed, and its packets, each with what the check answers.
+#![tactic(auto)]
+
 mod bounds;
 mod options;
 mod places;
@@ -8,8 +10,9 @@ mod traps;
 mod words;
 
 use ezpkt::part::front;
-use libc::STDIN_FILENO;
 use shown::{show, show_into};
+
+const STDIN_FILENO: i32 = 0;
 
 // The capture on standard input, and what it is mended to once more.
 fn stored() {

@@ -1,4 +1,5 @@
 // What captures are made of.
+use pkt::copying::copy;
 
 // The UDP datagram 10.0.0.1:1 to 10.0.0.2:2 with the payload eb d4, which sums to 0000; both its checksums are wrong.
 pub(crate) fn datagram() -> [u8; 30] {
@@ -17,7 +18,7 @@ pub(crate) fn put_bytes(bytes: &[u8], at: usize, out: &mut [u8]) {
     if at <= out.len() {
         let rest = &mut out[at..];
         if bytes.len() <= rest.len() {
-            bytes::copy(bytes, rest);
+            copy(bytes, rest);
         }
     }
 }

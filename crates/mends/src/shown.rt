@@ -12,7 +12,7 @@ pub const BYTE: u8 = 0xaa;
 pub const NUMBER: usize = 7;
 
 // How many bytes and changes were written: none where a capture was refused.
-#[derive(Drop)]
+#[derive(Clone, Copy, Drop)]
 struct Counts {
     bytes: usize,
     changes: usize,

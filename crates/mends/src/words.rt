@@ -1,6 +1,7 @@
 // What is written: words, numbers, bytes and changes.
 use inspect::check::Checked;
-use libc::STDOUT_FILENO;
+
+const STDOUT_FILENO: i32 = 1;
 
 // Words alone.
 pub(crate) fn say(words: &[u8]) {

@@ -1,9 +1,15 @@
 // Exports a capture: the classic capture on standard input goes to standard output as pcapng.
+#![tactic(auto)]
+
 ghost use Rattle.std.specs.Prelude.{◌≤◌, length};
 
 use exporting::Exported;
-use libc::{STDERR_FILENO, STDIN_FILENO, STDOUT_FILENO};
 use pkt::refusal;
+use std::env::FillError;
+use std::io::{Error, Read};
+use std::rt::Env;
+
+const STDERR_FILENO: i32 = 2;
 
 // The bytes of the longest capture that is taken.
 const MOST: usize = 2097152;
@@ -15,30 +21,33 @@ const ROOM: usize = MOST + 1;
 // room.
 const MOST_WRITTEN: usize = 48 + 36 * (MOST - 24) / 17;
 
-// What was read: n bytes, and whether reading failed.
-#[derive(Drop)]
+// What was read: n bytes, and why reading failed, if it did.
+#[derive(Clone, Copy, Drop)]
 struct Got {
     n: usize,
-    failed: bool,
+    failed: Option<Error>,
+}
+
+// Says on standard error what failed, and why.
+fn say_failed(rt: &impl Eprint, what: &str, e: Error) {
+    let _ = eprintln!(rt; "pcapng: {what}: {e}");
 }
 
 // Reads until the buffer is full or the input ends.
-fn fill(buf: &mut [u8]) -> Got
+fn fill(from: &mut impl Read, buf: &mut [u8]) -> Got
     ensures { result.n ≤ length buf.new }
 {
     let mut n = 0;
     while n < buf.len() {
-        let got = libc::read(STDIN_FILENO, &mut buf[n..]);
-        if got < 0 {
-            return Got { n, failed: true };
+        match from.read(&mut buf[n..]) {
+            Ok(0) => break,
+            Ok(more) => n += more,
+            Err(e) => {
+                return Got { n, failed: Some(e) };
+            }
         }
-        let more = io::count(got, &buf[n..]);
-        if more == 0 {
-            break;
-        }
-        n += more;
     }
-    Got { n, failed: false }
+    Got { n, failed: None }
 }
 
 // Words alone.
@@ -76,56 +85,61 @@ fn say_refused_at(number: u8, record: usize) {
 }
 
 // The pcapng file.
-fn write(file: &[u8]) {
-    if !io::write_all(STDOUT_FILENO, file) {
-        os::fail(b"pcapng: standard output");
+fn write(rt: &(impl Print + Eprint), file: &[u8]) {
+    if let Err(e) = rt.write_all(file) {
+        say_failed(rt, "standard output", e);
     }
 }
 
 // Exports a capture by way of out, or says why not.
-fn export_in(capture: &[u8], out: &mut [u8]) {
+fn export_in(rt: &(impl Print + Eprint), capture: &[u8], out: &mut [u8]) {
     match exporting::export(capture, out) {
-        Exported::Written(n) => write(&out[0..n]),
+        Exported::Written(n) => write(rt, &out[0..n]),
         Exported::Refused(number) => say_refused(number),
         Exported::RefusedAt(number, record) => say_refused_at(number, record),
     }
 }
 
 // The array as a slice.
-fn export_within(capture: &[u8], out: &mut [u8; MOST_WRITTEN]) {
-    export_in(capture, out);
+fn export_within(rt: &(impl Print + Eprint), capture: &[u8], out: &mut [u8; MOST_WRITTEN]) {
+    export_in(rt, capture, out);
 }
 
-fn run(capture: &[u8]) {
+fn run(rt: &(impl Print + Eprint), capture: &[u8]) {
     let mut out = [0u8; MOST_WRITTEN];
-    export_within(capture, &mut out);
+    export_within(rt, capture, &mut out);
 }
 
 // Reads a capture; a byte more than the longest has shows that there is more.
-fn read_into(input: &mut [u8]) {
-    let got = fill(&mut *input);
+fn read_into(rt: &(impl Print + Eprint + Input), input: &mut [u8]) {
+    let got = fill(&mut rt.reader(), &mut *input);
     let n = got.n;
-    if got.failed {
-        os::fail(b"pcapng: standard input");
+    if let Some(e) = got.failed {
+        say_failed(rt, "standard input", e);
         return;
     }
     if MOST < n {
         say(b"pcapng: more than 2,097,152 bytes of input\n");
         return;
     }
-    run(&input[0..n]);
+    run(rt, &input[0..n]);
 }
 
 // The array as a slice.
-fn read_within(input: &mut [u8; ROOM]) {
-    read_into(input);
+fn read_within(rt: &(impl Print + Eprint + Input), input: &mut [u8; ROOM]) {
+    read_into(rt, input);
 }
 
-fn main() {
-    if 1 < os::arg_count() {
+// Whether there are words behind the program's name.
+fn has_words(rt: &impl Env) -> bool {
+    !matches!(rt.arg(1, &mut [0u8; 1]), Err(FillError::NotPresent))
+}
+
+fn main(rt: HostRuntime) {
+    if has_words(&rt) {
         say(b"pcapng wants no words, as in: pcapng < old.pcap > new.pcapng\n");
         return;
     }
     let mut input = [0u8; ROOM];
-    read_within(&mut input);
+    read_within(&rt, &mut input);
 }

@@ -1,7 +1,13 @@
 // Reads a payload, and writes a capture with the first echo of a flow that carries it.
+#![tactic(auto)]
+
 mod capture;
 
-use libc::{STDERR_FILENO, STDIN_FILENO, STDOUT_FILENO};
+const STDERR_FILENO: i32 = 2;
+
+const STDIN_FILENO: i32 = 0;
+
+const STDOUT_FILENO: i32 = 1;
 
 fn main() {
     let mut input = [0u8; 4097];

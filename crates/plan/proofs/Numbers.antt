@@ -11,7 +11,6 @@ use lib.Dec.{eqb}
 use borrow.Author.Tests.{le-leb, lt-leb, eq-eqb, ne_eqb}
 use Rattle.plan.specs.declared.words.Number.{Number}
 use Rattle.plan.specs.declared.words.Number.TheVariants.{Is, Wrong}
-use Rattle.plan.specs.declared.words.Ask.{Ask}
 use Rattle.plan.specs.declared.words.Ask.TheVariants as ask
 use Rattle.plan.specs.Words.{most_number, first_digit, more_digit, next_digit, digits_from, number_in, is_check, ask_for, ask_of, ask_in}
 

@@ -1,16 +1,15 @@
 -- Lines: what each test tells, and that what is left, read from here, is the whole.
 use mathlib.Core.Path.{◌≡◌, refl, sym, ap, ◌∙◌}
-use mathlib.Core.List.{List, [], ◌∷◌}
+use mathlib.Core.List.{List}
 use Prim.Native.Nat.{ℕ, suc, ◌+◌, ◌≤◌, ◌<◌}
 use native.Mathlib.Numerals.{add-one}
-use native.Mathlib.Omega.{arith}
 use lib.ListN.{length, get_or, drop, drop_of_length-le}
 use lib.Seq.{drop-cons}
 use borrow.Author.Tests.{lt-ltb, le-ltb, le-leb, lt-leb, eq-eqb, ne_eqb}
 use Rattle.planner.specs.declared.Look.{Look}
 use Rattle.planner.specs.Steps.{look_with}
 use Rattle.plan.specs.declared.words.Number.{Number}
-use Rattle.plan.specs.declared.words.Number.TheVariants.{Is, Wrong}
+use Rattle.plan.specs.declared.words.Number.TheVariants.{Is}
 use Rattle.plan.specs.declared.lines.Place.{Place}
 use Rattle.plan.specs.declared.lines.Place.TheVariants as place
 use Rattle.plan.specs.declared.lines.Reading.{Reading}

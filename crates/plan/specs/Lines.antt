@@ -1,6 +1,5 @@
 -- A list of requests as text: each line is an offset, a space and a length, and what follows a second space is passed over.
 use Rattle.std.specs.Prelude.{ℕ, ◌+◌, cond, List, [], ◌∷◌, ltb, leb, eqb}
-use Rattle.planner.specs.declared.Look.{Look}
 use Rattle.planner.specs.Steps.{look_none, look_with}
 use Rattle.plan.specs.declared.words.Number.{Number}
 use Rattle.plan.specs.declared.words.Number.TheVariants.{Is, Wrong}

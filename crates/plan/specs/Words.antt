@@ -1,5 +1,5 @@
 -- The words that the program takes: BYTES LINK, or BYTES LINK check.
-use Rattle.std.specs.Prelude.{ℕ, ◌+◌, ◌-◌, ◌*◌, Bool, true, false, ◌&&◌, cond, not, List, [], ◌∷◌, length, get_or, leb, eqb}
+use Rattle.std.specs.Prelude.{ℕ, ◌+◌, ◌-◌, ◌*◌, Bool, ◌&&◌, cond, not, List, [], ◌∷◌, length, get_or, leb, eqb}
 use Rattle.plan.specs.declared.words.Number.{Number}
 use Rattle.plan.specs.declared.words.Number.TheVariants as number
 use Rattle.plan.specs.declared.words.Ask.{Ask}

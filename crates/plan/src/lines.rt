@@ -11,7 +11,7 @@ use planner::Look;
 pub const MOST_LINES: usize = 8190;
 
 // Where a line stands, with the numbers that were read of it. Whole: it has just ended. Bad: it is no request. Many: it is one line too many.
-#[derive(Drop)]
+#[derive(Clone, Copy, Drop)]
 pub enum Place {
     Start,
     Off(u16),
@@ -24,7 +24,7 @@ pub enum Place {
 }
 
 // What is known of the requests on so many whole lines, and where the line behind them stands.
-#[derive(Drop)]
+#[derive(Clone, Copy, Drop)]
 pub struct Reading {
     pub look: Look,
     pub lines: usize,

@@ -1,23 +1,36 @@
 // Prints the plan by which so many bytes are cut for a link, or says whether a list of requests is a plan for them.
+#![tactic(auto)]
+
 mod lines;
 mod words;
 
-ghost use Rattle.std.specs.Prelude.{◌≡◌, ◌-◌};
+ghost use Rattle.std.specs.Prelude.{◌≡◌, ◌≤◌, ◌-◌, length};
 ghost use Rattle.ezpkt.specs.Build.{start_at, end_at};
 
 use ezpkt::ip4;
-use libc::{STDERR_FILENO, STDIN_FILENO, STDOUT_FILENO};
 use lines::{Place, Reading};
 use pieces::BlockRequest;
 use planner::{Job, Judged, Planned};
+use std::env::FillError;
+use std::io::{Error, Read};
+use std::rt::Env;
 use words::Ask;
 
+const STDERR_FILENO: i32 = 2;
+
+const STDOUT_FILENO: i32 = 1;
+
 // What a read leads to: another, the end of the input, or none where it failed.
-#[derive(Drop)]
+#[derive(Clone, Copy, Drop)]
 enum Turn {
     More(Reading),
     End,
     Failed,
+}
+
+// Says on standard error what failed, and why.
+fn say_failed(rt: &impl Eprint, what: &str, e: Error) {
+    let _ = eprintln!(rt; "plan: {what}: {e}");
 }
 
 // The bytes that a piece of n bytes carries.
@@ -28,30 +41,17 @@ fn carried(r: BlockRequest, n: usize) -> usize
 }
 
 // One line: the offset and the length in blocks, and the bytes.
-fn print_request(r: BlockRequest, n: usize) -> bool {
+fn print_request(rt: &impl Print, r: BlockRequest, n: usize) -> Result<(), Error> {
+    let off = r.off;
+    let len = r.len;
     let bytes = carried(r, n);
-    if !io::print_decimal(STDOUT_FILENO, r.off as u64) {
-        return false;
-    }
-    if !io::write_all(STDOUT_FILENO, b" ") {
-        return false;
-    }
-    if !io::print_decimal(STDOUT_FILENO, r.len as u64) {
-        return false;
-    }
-    if !io::write_all(STDOUT_FILENO, b" ") {
-        return false;
-    }
-    if !io::print_decimal(STDOUT_FILENO, bytes as u64) {
-        return false;
-    }
-    io::write_all(STDOUT_FILENO, b"\n")
+    println!(rt; "{off} {len} {bytes}")
 }
 
-fn print_requests(job: Job) {
+fn print_requests(rt: &(impl Print + Eprint), job: Job) {
     for k in 0..job.count {
-        if !print_request(planner::nth(job, k), job.n) {
-            os::fail(b"plan: standard output");
+        if let Err(e) = print_request(rt, planner::nth(job, k), job.n) {
+            say_failed(rt, "standard output", e);
             return;
         }
     }
@@ -74,11 +74,11 @@ fn say_refused(why: u8) {
     io::write_all(STDOUT_FILENO, b"\n");
 }
 
-fn list(n: usize, m: usize) {
+fn list(rt: &(impl Print + Eprint), n: usize, m: usize) {
     let job = planner::decide(n, m, lines::MOST_LINES);
     let answer = job.answer;
     match answer {
-        Planned::Made(_) => print_requests(job),
+        Planned::Made(_) => print_requests(rt, job),
         Planned::Refused(why) => say_refused(why),
     }
 }
@@ -139,18 +139,16 @@ fn is_over(reading: Reading) -> bool {
     }
 }
 
-fn read_some(reading: Reading) -> Turn {
+fn read_some(rt: &impl Eprint, from: &mut impl Read, reading: Reading) -> Turn {
     let mut buf = io::buffer();
-    let got = libc::read(STDIN_FILENO, &mut buf);
-    if got < 0 {
-        os::fail(b"plan: standard input");
-        return Turn::Failed;
+    match from.read(&mut buf) {
+        Ok(0) => Turn::End,
+        Ok(n) => Turn::More(lines::read_on(reading, &buf[..n])),
+        Err(e) => {
+            say_failed(rt, "standard input", e);
+            Turn::Failed
+        }
     }
-    let n = io::count(got, &buf);
-    if n == 0 {
-        return Turn::End;
-    }
-    Turn::More(lines::read_on(reading, &buf[..n]))
 }
 
 fn say_endless() {
@@ -161,12 +159,13 @@ fn say_endless() {
 }
 
 // Reads to the end of the list. A loop has to end, and nothing says that the input does: this one stops after more reads than any input takes.
-fn check(n: usize, m: usize) {
+fn check(rt: &(impl Eprint + Input), n: usize, m: usize) {
+    let mut from = rt.reader();
     let mut reading = lines::read_none(n, m);
     let mut turns: u64 = 0xffffffffffffffff;
     while turns > 0 {
         turns -= 1;
-        match read_some(reading) {
+        match read_some(rt, &mut from, reading) {
             Turn::More(next) => {
                 reading = next;
             }
@@ -193,21 +192,38 @@ fn say_wanted() {
     );
 }
 
-fn main() {
+// The word of this number at the start of buf, and how long it is: 0 where it is missing or longer than buf.
+fn word(rt: &impl Env, i: usize, buf: &mut [u8]) -> usize
+    ensures { result ≤ length buf.new }
+{
+    rt.arg(i, buf).unwrap_or(0)
+}
+
+// How many words there are, with the program's name.
+fn word_count(rt: &impl Env) -> usize {
+    for i in 0..usize::MAX {
+        if let Err(FillError::NotPresent) = rt.arg(i, &mut [0u8; 1]) {
+            return i;
+        }
+    }
+    usize::MAX
+}
+
+fn main(rt: HostRuntime) {
     let mut n = [0u8; words::LONGEST];
     let mut m = [0u8; words::LONGEST];
     let mut third = [0u8; 5];
-    let a = os::arg(1, &mut n);
-    let b = os::arg(2, &mut m);
-    let c = os::arg(3, &mut third);
-    let count = os::arg_count();
+    let a = word(&rt, 1, &mut n);
+    let b = word(&rt, 2, &mut m);
+    let c = word(&rt, 3, &mut third);
+    let count = word_count(&rt);
     if count < 1 {
         say_wanted();
         return;
     }
     match words::read_words(count - 1, &n[..a], &m[..b], &third[..c]) {
-        Ask::List(n, m) => list(n, m),
-        Ask::Check(n, m) => check(n, m),
+        Ask::List(n, m) => list(&rt, n, m),
+        Ask::Check(n, m) => check(&rt, n, m),
         Ask::Wrong => say_wanted(),
     }
 }

@@ -5,14 +5,14 @@ ghost use Rattle.plan.specs.Words.{first_digit, more_digit, next_digit, number_i
 // The digits of the largest number, 18,446,744,073,709,551,615.
 pub const LONGEST: usize = 20;
 
-#[derive(Drop)]
+#[derive(Clone, Copy, Drop)]
 pub enum Number {
     Is(u64),
     Wrong,
 }
 
 // What the words ask for: the list for n bytes and a link of m, or a check of one.
-#[derive(Drop)]
+#[derive(Clone, Copy, Drop)]
 pub enum Ask {
     List(usize, usize),
     Check(usize, usize),

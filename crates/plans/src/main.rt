@@ -1,9 +1,12 @@
 // Plans and refusals of the planner, and what the check says of lists: a line for each request, with the bytes that its piece carries. Of a list of
 // more than four only the first three and the last are written.
+#![tactic(auto)]
+
 use ezpkt::ip4;
-use libc::STDOUT_FILENO;
 use pieces::BlockRequest;
 use planner::{Job, Judged, Look, Planned};
+
+const STDOUT_FILENO: i32 = 1;
 
 fn say(text: &[u8]) {
     io::write_all(STDOUT_FILENO, text);

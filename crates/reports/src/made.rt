@@ -1,6 +1,7 @@
 // What lists of packets are made of.
 use ezpkt::build::{Request, TcpSegment};
 use ezpkt::{Marks, SocketAddrV4, build};
+use pkt::copying::copy;
 use tcp4::TcpFlow;
 
 // The ends of the flow that is reported.
@@ -46,7 +47,7 @@ pub(crate) fn put_bytes(bytes: &[u8], at: usize, out: &mut [u8]) {
     if at <= out.len() {
         let rest = &mut out[at..];
         if bytes.len() <= rest.len() {
-            bytes::copy(bytes, rest);
+            copy(bytes, rest);
         }
     }
 }

@@ -1,8 +1,9 @@
 // A line for each report.
 use crate::made::{CLIENT, SERVER};
 use ezpkt::SocketAddrV4;
-use libc::STDOUT_FILENO;
 use reporting::{Report, Reported, Tally};
+
+const STDOUT_FILENO: i32 = 1;
 
 // Words alone.
 fn say(words: &[u8]) {

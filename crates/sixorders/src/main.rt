@@ -1,11 +1,14 @@
 // Pieces handed in in every order, and every refusal of an assembly, run: each line is a call and what it answers.
+#![tactic(auto)]
+
 mod options;
 
 use assembly::{Key, Opened, Progress, Rec, Taken, Total};
 use ezpkt::build::{IcmpEcho, Request, TcpSegment, UdpDatagram};
 use ezpkt::ip4::Template;
 use ezpkt::{Marks, build, ip4, part};
-use libc::STDOUT_FILENO;
+
+const STDOUT_FILENO: i32 = 1;
 
 const CLIENT: u32 = 0x0a000001;
 

@@ -7,6 +7,7 @@ use crate::state::Now;
 use crate::{answer, fields, payload, place, state};
 use ezpkt::part::{back, front};
 use packet::{Made, Number, Packet, Part, PktSlice, Pushed};
+use pkt::copying::copy;
 
 fn is_number(number: Number, n: usize) -> bool {
     match number {
@@ -138,7 +139,7 @@ fn given(kind: u8, p: Packet, bytes: &[u8], buf: &mut [u8]) -> Pushed {
 fn put(bytes: &[u8], off: usize, buf: &mut [u8]) {
     if off <= buf.len() {
         if bytes.len() <= buf.len() - off {
-            bytes::copy(bytes, &mut buf[off..]);
+            copy(bytes, &mut buf[off..]);
         }
     }
 }

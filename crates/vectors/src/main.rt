@@ -6,6 +6,8 @@
 //
 // Prints how many cases of each kind came out as in the Rust, how many were refused as they must be, the first
 // that differs, if one does, then how many cases there were and how many differ. Case 1 is the first of the file.
+#![tactic(auto)]
+
 mod answer;
 mod fields;
 mod flows;
@@ -22,14 +24,15 @@ mod udp;
 
 ghost use Rattle.std.specs.Prelude.{◌≤◌};
 
-use crate::names::say;
+use crate::names::{STDOUT_FILENO, say};
 use crate::state::Now;
 use ezpkt::part::{back, front};
-use libc::{STDIN_FILENO, STDOUT_FILENO};
+
+const STDIN_FILENO: i32 = 0;
 
 // What came out: the cases so far, those that were refused as they must be, those that differ, and the first of
 // them with its kind.
-#[derive(Drop)]
+#[derive(Clone, Copy, Drop)]
 struct Tally {
     cases: u32,
     refused: u32,
@@ -40,7 +43,7 @@ struct Tally {
 
 // Between two cases: the kind of the last one, whether it must be refused, what they are calls on, what came out,
 // and where the next one begins.
-#[derive(Drop)]
+#[derive(Clone, Copy, Drop)]
 struct Run {
     kind: u8,
     retired: bool,

@@ -2,7 +2,8 @@
 ghost use Rattle.std.specs.Prelude.{◌≤◌, length};
 
 use ezpkt::part::back;
-use libc::STDOUT_FILENO;
+
+pub(crate) const STDOUT_FILENO: i32 = 1;
 
 pub(crate) fn say(words: &[u8]) {
     io::write_all(STDOUT_FILENO, words);
@@ -12,7 +13,7 @@ pub(crate) fn say(words: &[u8]) {
 fn word_size(words: &[u8]) -> usize
     ensures { result ≤ length words.now }
 {
-    bytes::scan::find(words, 0, words.len(), b' ')
+    words.iter().position(|c| *c == b' ').unwrap_or(words.len())
 }
 
 // Where the word behind the one at a place begins.

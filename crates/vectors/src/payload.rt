@@ -3,6 +3,7 @@ ghost use Rattle.std.specs.Prelude.{◌≤◌, length};
 
 use crate::{fields, place};
 use ezpkt::part::{back, front};
+use pkt::copying::copy;
 
 // Whether the description is one that the file may have.
 fn is_right(b: &[u8]) -> bool {
@@ -70,7 +71,7 @@ fn put(b: &[u8], out: &mut [u8]) {
     } else if form == 1 {
         fill(s, out);
     } else {
-        bytes::copy(front(back(b, 6), out.len()), out);
+        copy(front(back(b, 6), out.len()), out);
     }
 }
 

@@ -10,7 +10,7 @@ use tcp4::TcpFlow;
 // second end, if it is a TCP flow's; the number that refused it, if it is a piece or a datagram, and else 0. Of
 // all calls of the case: how many bytes they wrote, their digest, whether each wrote a packet and no byte behind
 // it, and whether each was refused by 22 and wrote no byte. Then whether the case came out as it should.
-#[derive(Drop)]
+#[derive(Clone, Copy, Drop)]
 pub(crate) struct Now {
     pub(crate) icmp: IcmpFlow,
     pub(crate) icmp_open: bool,

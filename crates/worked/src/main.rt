@@ -1,12 +1,15 @@
 // Document 01's worked examples, and document 02's of UDP without checksum, run: each line is an example and what the
 // library answers.
+#![tactic(auto)]
+
 use ezpkt::build::{Built, Request, TcpSegment, UdpDatagram};
 use ezpkt::ip4::Template;
 use ezpkt::{Marks, SocketAddrV4, build, ip4};
-use libc::STDOUT_FILENO;
 use pkt::ipv4;
 use pkt::ipv4::{Sum, ip_hdr, tcp_hdr, udp_hdr};
 use tcp4::{Sent, Seq, TcpFlow};
+
+const STDOUT_FILENO: i32 = 1;
 
 const CLIENT: u32 = 0x0a000001;
 

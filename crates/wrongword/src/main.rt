@@ -1,5 +1,7 @@
 // Every word of a packet at every number, run: below the line of a packet a line for each of its words, and for the odd last byte, says the place, what
 // stands there and what the check answers if another number stood there, from the smallest to the largest.
+#![tactic(auto)]
+
 mod change;
 mod shown;
 

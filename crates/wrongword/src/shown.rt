@@ -1,6 +1,7 @@
 // What the check answered, as a list of runs of numbers with one answer.
 use inspect::check::Checked;
-use libc::STDOUT_FILENO;
+
+const STDOUT_FILENO: i32 = 1;
 
 // What the two answers that are no refusals are here.
 const GOOD: u8 = 0;
@@ -8,7 +9,7 @@ const GOOD: u8 = 0;
 const NO_CHECKSUM: u8 = 255;
 
 // The numbers from first to last have one answer.
-#[derive(Drop)]
+#[derive(Clone, Copy, Drop)]
 pub(crate) struct Run {
     pub first: u16,
     pub last: u16,

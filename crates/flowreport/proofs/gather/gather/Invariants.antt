@@ -1,0 +1,12 @@
+-- After each turn what is gathered, and the packets of the records that are left, are those of the whole capture.
+use mathlib.Core.Path.{◌≡◌}
+use Prim.Native.Nat.{◌-◌}
+use lib.ListN.{length}
+use Rattle.flowreport.proofs.Gathering.{Facts}
+use Rattle.flowreport.proofs.gather.gather.Given as goal
+
+abbrev pub invariant-loop-past : goal.invariant-loop-past
+invariant-loop-past l = (length l.out ≡ length l.initial.out) × (length l.ends ≡ length l.initial.ends) × Facts l.capture l.at l.packets l.n l.out l.ends
+
+abbrev pub decreases-loop-past : goal.decreases-loop-past
+decreases-loop-past l = length l.capture - l.at
