@@ -108,6 +108,8 @@ function edit_row(name, breaks) {
     else if (breaks != first[name]) say(name " breaks another sentence: " first[name])
 }
 
+function spaced(text) { gsub(/ +/, " ", text); return text }
+
 function trimmed(cell) { gsub(/^ +| +$/, "", cell); return cell }
 
 function count_is(pattern, noun, count, rest, number) {
@@ -206,6 +208,13 @@ END {
     for (name in folder) if (rows[name] != 1) say(name " stands in " rows[name] + 0 " rows of the tables of edits")
     for (name in public)
         if (public[name] in open && rows[name] != 1) say(name " stands in " rows[name] + 0 " rows of 'Public calls'")
+    for (name in contract)
+        if (name ~ /::wb_/) {
+            call = name
+            if (sub(/^wispbundle_c::/, "wispbundle::", call)) {
+                if (spaced(contract[name]) != spaced(contract[call])) say(name " promises something else than " call)
+            } else if (sub(/^wispbundle::/, "wispbundle_c::", call) && !(call in contract)) say(name " has no export for C")
+        }
     count_is("Together [0-9,]+ lines", "lines of definitions", sum)
     count_is("[0-9][0-9,]* edits", "edits", all_edits)
     count_is("[0-9][0-9,]* wrong programs", "wrong programs", edits["wrong"] + edits["must-fail"])

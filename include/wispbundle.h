@@ -1,6 +1,6 @@
 /* Wispbundle for C: raw IPv4, TCP, UDP and ICMP packets, pieces of a datagram, and putting pieces together.
  *
- * Link with libwispbundle.a (`rt staticlib wispbundle`), which is for x86-64 Linux, from C11 or C++11.
+ * Link with libwispbundle.a (`.ci/archive` writes it), which is for x86-64 Linux, from C11 or C++11.
  *
  * What a caller owes. Bytes go in as a pointer and a count: so many bytes are there, at any alignment, and the pointer
  * is not NULL, also where the count is 0. Requests and ends go in likewise, but they are counted themselves and not

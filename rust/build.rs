@@ -8,7 +8,7 @@ const VARIABLE: &str = "WISPBUNDLE_LIB";
 /// The folder that is taken where the variable is not set, and what writes the archive there.
 fn usual(processor: &str) -> (&'static str, &'static str) {
     if processor == "x86_64" {
-        ("../target/staticlib", "rt staticlib wispbundle")
+        ("../target/staticlib", ".ci/archive")
     } else {
         ("../target/host", "rust/host-archive")
     }

@@ -8,14 +8,6 @@
 mod types;
 pub use types::*;
 
-#[cfg(target_arch = "x86_64")]
-#[macro_use]
-mod x86_64;
-
-#[cfg(target_arch = "aarch64")]
-#[macro_use]
-mod aarch64;
-
 #[cfg(not(any(target_arch = "x86_64", target_arch = "aarch64")))]
 compile_error!("libwispbundle.a is for x86-64; beside it only aarch64 is known, for tests");
 
@@ -23,120 +15,103 @@ compile_error!("libwispbundle.a is for x86-64; beside it only aarch64 is known, 
 pub const VERSION: u32 = 8;
 
 macro_rules! functions {
-    ($($form:ident $($name:ident),+: fn $args:tt -> $answer:ident;)+) => {
-        $($(function! { $form $name $args $answer })+)+
+    ($($($name:ident),+: fn $args:tt -> $answer:ident;)+) => {
+        unsafe extern "C" {
+            $($(pub fn $name $args -> $answer;)+)+
+        }
     };
 }
 
-// Functions that differ in name alone stand together. `small`: structs and answers have at most 16
-// bytes and go through registers, alike on both processors. `argument`, `answer`, `both`: what is
-// larger. A larger argument is followed by its words, in brackets, and the arguments then, behind a
-// semicolon, by the registers that they leave unused.
+// Functions that differ in name alone stand together.
 functions! {
-    small wb_version: fn() -> u32;
+    wb_version: fn() -> u32;
 
-    small wb_ip_csum: fn(buf: *const u8, buf_len: usize) -> Sum;
+    wb_ip_csum: fn(buf: *const u8, buf_len: usize) -> Sum;
 
-    argument wb_build_tcp: fn(
-        segment: TcpSegment [a b c d],
-        payload: *const u8, payload_len: usize, out: *mut u8, out_len: usize; r4 r5 r6 r7
+    wb_build_tcp: fn(
+        segment: TcpSegment, payload: *const u8, payload_len: usize, out: *mut u8, out_len: usize
     ) -> Length;
-    argument wb_build_udp: fn(
-        datagram: UdpDatagram [a b c],
-        payload: *const u8, payload_len: usize, out: *mut u8, out_len: usize; r4 r5 r6 r7
+    wb_build_udp: fn(
+        datagram: UdpDatagram, payload: *const u8, payload_len: usize, out: *mut u8, out_len: usize
     ) -> Length;
-    small wb_build_icmp: fn(
+    wb_build_icmp: fn(
         echo: IcmpPacket, payload: *const u8, payload_len: usize, out: *mut u8, out_len: usize
     ) -> Length;
-    argument wb_build_piece: fn(
-        piece: IpPiece [a b c],
-        payload: *const u8, payload_len: usize, out: *mut u8, out_len: usize; r4 r5 r6 r7
+    wb_build_piece: fn(
+        piece: IpPiece, payload: *const u8, payload_len: usize, out: *mut u8, out_len: usize
     ) -> Length;
 
-    small wb_fragment: fn(
+    wb_fragment: fn(
         template: Template, payload: *const u8, payload_len: usize, off: u16, len: u16,
         out: *mut u8, out_len: usize
     ) -> Length;
-    small wb_tail: fn(
+    wb_tail: fn(
         template: Template, payload: *const u8, payload_len: usize, off: u16,
         out: *mut u8, out_len: usize
     ) -> Length;
-    small wb_datagram: fn(
+    wb_datagram: fn(
         template: Template, payload: *const u8, payload_len: usize, out: *mut u8, out_len: usize
     ) -> Length;
-    answer wb_fragments: fn(
+    wb_fragments: fn(
         template: Template, payload: *const u8, payload_len: usize,
         list: *const BlockRequest, list_len: usize,
         out: *mut u8, out_len: usize, ends: *mut usize, ends_len: usize
     ) -> Listed;
 
-    answer wb_tcp_new: fn(cl: Addr, sv: Addr, cl_seq: u32, sv_seq: u32) -> TcpFlow;
-    both wb_tcp_marked: fn(
-        flow: TcpFlow [a b c d], marks: Marks; r2 r3 r4 r5 r6 r7
-    ) -> TcpFlow;
-    both wb_tcp_open, wb_tcp_client_close, wb_tcp_server_close, wb_tcp_client_reset, wb_tcp_server_reset,
+    wb_tcp_new: fn(cl: Addr, sv: Addr, cl_seq: u32, sv_seq: u32) -> TcpFlow;
+    wb_tcp_marked: fn(flow: TcpFlow, marks: Marks) -> TcpFlow;
+    wb_tcp_open, wb_tcp_client_close, wb_tcp_server_close, wb_tcp_client_reset, wb_tcp_server_reset,
         wb_tcp_client_ack, wb_tcp_server_ack: fn(
-        flow: TcpFlow [a b c d], out: *mut u8, out_len: usize; r3 r4 r5 r6 r7
+        flow: TcpFlow, out: *mut u8, out_len: usize
     ) -> TcpSent;
-    both wb_tcp_client_data_segment, wb_tcp_server_data_segment: fn(
-        flow: TcpFlow [a b c d],
-        bytes: *const u8, bytes_len: usize, out: *mut u8, out_len: usize; r5 r6 r7
+    wb_tcp_client_data_segment, wb_tcp_server_data_segment: fn(
+        flow: TcpFlow, bytes: *const u8, bytes_len: usize, out: *mut u8, out_len: usize
     ) -> TcpSent;
-    both wb_tcp_client_message, wb_tcp_server_message: fn(
-        flow: TcpFlow [a b c d],
+    wb_tcp_client_message, wb_tcp_server_message: fn(
+        flow: TcpFlow,
         bytes: *const u8, bytes_len: usize, send_ack: bool, frag_off: u16,
-        out: *mut u8, out_len: usize; r7
+        out: *mut u8, out_len: usize
     ) -> TcpSent;
-    both wb_tcp_client_hole, wb_tcp_server_hole: fn(
-        flow: TcpFlow [a b c d], bytes: u32; r2 r3 r4 r5 r6 r7
-    ) -> TcpFlow;
-    both wb_tcp_client_hdr, wb_tcp_server_hdr: fn(
-        flow: TcpFlow [a b c d], dlen: u32, csum: u16; r3 r4 r5 r6 r7
-    ) -> TcpHeader;
-    both wb_tcp_push_state: fn(
-        flow: TcpFlow [a b c d], cl_seq: Seq, sv_seq: Seq; r3 r4 r5 r6 r7
-    ) -> Pushed;
-    both wb_tcp_pop_state: fn(
-        flow: TcpFlow [a b c d], cl_seq: Seq, sv_seq: Seq; r3 r4 r5 r6 r7
-    ) -> TcpFlow;
+    wb_tcp_client_hole, wb_tcp_server_hole: fn(flow: TcpFlow, bytes: u32) -> TcpFlow;
+    wb_tcp_client_hdr, wb_tcp_server_hdr: fn(flow: TcpFlow, dlen: u32, csum: u16) -> TcpHeader;
+    wb_tcp_push_state: fn(flow: TcpFlow, cl_seq: Seq, sv_seq: Seq) -> Pushed;
+    wb_tcp_pop_state: fn(flow: TcpFlow, cl_seq: Seq, sv_seq: Seq) -> TcpFlow;
 
-    answer wb_udp_new: fn(cl: Addr, sv: Addr) -> UdpFlow;
-    both wb_udp_marked: fn(
-        flow: UdpFlow [a b c], marks: Marks; r2 r3 r4 r5 r6 r7
-    ) -> UdpFlow;
-    argument wb_udp_client_dgram, wb_udp_server_dgram: fn(
-        flow: UdpFlow [a b c],
-        bytes: *const u8, bytes_len: usize, given: Choices, out: *mut u8, out_len: usize; r6 r7
+    wb_udp_new: fn(cl: Addr, sv: Addr) -> UdpFlow;
+    wb_udp_marked: fn(flow: UdpFlow, marks: Marks) -> UdpFlow;
+    wb_udp_client_dgram, wb_udp_server_dgram: fn(
+        flow: UdpFlow,
+        bytes: *const u8, bytes_len: usize, given: Choices, out: *mut u8, out_len: usize
     ) -> Length;
 
-    small wb_icmp_new: fn(cl: u32, sv: u32) -> IcmpFlow;
-    small wb_icmp_marked: fn(flow: IcmpFlow, marks: Marks) -> IcmpFlow;
-    answer wb_icmp_echo, wb_icmp_echo_reply: fn(
+    wb_icmp_new: fn(cl: u32, sv: u32) -> IcmpFlow;
+    wb_icmp_marked: fn(flow: IcmpFlow, marks: Marks) -> IcmpFlow;
+    wb_icmp_echo, wb_icmp_echo_reply: fn(
         flow: IcmpFlow, bytes: *const u8, bytes_len: usize, out: *mut u8, out_len: usize
     ) -> IcmpSent;
 
-    small wb_check: fn(packet: *const u8, packet_len: usize) -> Checked;
+    wb_check: fn(packet: *const u8, packet_len: usize) -> Checked;
 
-    answer wb_assembly_open: fn(
+    wb_assembly_open: fn(
         key: Key, payload: *mut u8, payload_len: usize, map: *mut u8, map_len: usize
     ) -> Opened;
-    both wb_assembly_take: fn(
-        before: Assembly [a b c d e],
+    wb_assembly_take: fn(
+        before: Assembly,
         packet: *const u8, packet_len: usize,
-        payload: *mut u8, payload_len: usize, map: *mut u8, map_len: usize; r7
+        payload: *mut u8, payload_len: usize, map: *mut u8, map_len: usize
     ) -> Taken;
-    argument wb_assembly_progress: fn(
-        before: Assembly [a b c d e],
-        payload: *const u8, payload_len: usize, map: *const u8, map_len: usize; r4 r5 r6 r7
+    wb_assembly_progress: fn(
+        before: Assembly,
+        payload: *const u8, payload_len: usize, map: *const u8, map_len: usize
     ) -> Progress;
 
-    small wb_pcap_header: fn(out: *mut u8, out_len: usize) -> Length;
-    small wb_pcap_record: fn(
+    wb_pcap_header: fn(out: *mut u8, out_len: usize) -> Length;
+    wb_pcap_record: fn(
         sec: u32, usec: u32, packet: *const u8, packet_len: usize, out: *mut u8, out_len: usize
     ) -> Length;
 
-    small wb_hex_dump_len: fn(packet: Packet, buf: *const u8, buf_len: usize) -> Length;
-    small wb_hex_dump: fn(
+    wb_hex_dump_len: fn(packet: Packet, buf: *const u8, buf_len: usize) -> Length;
+    wb_hex_dump: fn(
         packet: Packet, buf: *const u8, buf_len: usize, out: *mut u8, out_len: usize
     ) -> Length;
 }
