@@ -33,6 +33,7 @@ IN_FILES = [
     ("crates/assembly/proofs/Steps.antt", "record_of", "record_of_lem"),
     ("crates/words/proofs/Texts.antt", "found_none", "found_none_lem"),
     ("crates/demands/proofs/Numbers.antt", "found_in", "found_in_lem"),
+    ("crates/demands/proofs/WrongWord.antt", "kept_by", "kept_by_lem"),
     ("crates/demands/proofs/Reported.antt", "same_end", "same_end_lem"),
     ("crates/words/specs/Examples.antt", "no_number", "no_number_wrong"),
     ("crates/words/proofs/Reading.antt", "no_number", "no_number_lem"),
@@ -174,7 +175,7 @@ def main():
                     new = re.sub(r"(?<![\w'\u2032.-])" + o + r"(?![\w'\u2032-])", n, new)
         own = dict(to)
         if path.endswith("/Proof.antt"):
-            # helpers of one proof: not what the kit asks for
+            # lemmas of one proof: not what the kit asks for
             for name, rest, line in defined(path):
                 if "-" in name and not rest.startswith("tie.") and not name.endswith("-spec") and not line.startswith(" "):
                     own.setdefault(name, snake(name))
