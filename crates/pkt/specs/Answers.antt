@@ -1,5 +1,6 @@
 -- What each call answers, in document 01's terms.
-use Rattle.std.specs.Prelude.{ℕ, cond, List, ◌++◌, length, nat_lt}
+use Rattle.std.specs.Prelude.{ℕ, cond, List, ◌++◌, length, nat_lt, Result, Ok, Err}
+use Rattle.std.specs.Result.{result_unwrap_or}
 use Rattle.pkt.specs.Rfc1071.{checksum}
 use Rattle.pkt.specs.Rfc768.{pseudo, udp_checksum}
 use Rattle.pkt.specs.Rfc9293.{tcp_checksum}
@@ -8,8 +9,10 @@ use Rattle.pkt.specs.declared.ipv4.tcp_hdr.{tcp_hdr}
 use Rattle.pkt.specs.declared.ipv4.udp_hdr.{udp_hdr}
 use Rattle.pkt.specs.declared.ipv4.icmp_hdr.{icmp_hdr}
 use Rattle.pkt.specs.declared.ipv4.icmp_echo_hdr.{icmp_echo_hdr}
-use Rattle.pkt.specs.declared.ipv4.Sum.{Sum}
-use Rattle.pkt.specs.declared.ipv4.Sum.TheVariants.{Is, Refused}
+use Rattle.pkt.specs.declared.refusal.Refusal.{Refusal}
+use Rattle.pkt.specs.declared.refusal.ListRefusal.{ListRefusal}
+use Rattle.pkt.specs.declared.refusal.ListRefusal.TheVariants.{Whole, At}
+use Rattle.pkt.specs.Refusal.{number_of}
 
 -- An answer: a refusal's number in document 01's table, or what the call gives.
 pub data Answer (A : Type 0) : Type 0 where
@@ -39,14 +42,20 @@ plainly (refused_whole n) = refused n
 plainly (refused_at n i) = refused n
 plainly (gives_all a) = gives a
 
-abbrev pub sum_says : Sum → Answer ℕ
-sum_says (Is c) = gives c
-sum_says (Refused n) = refused n
+-- what a call's result says: the number of a refusal, or what the call gives
+abbrev pub says : {A : Type 0} → Result A Refusal → Answer A
+says (Ok a) = gives a
+says (Err e) = refused (number_of e)
+
+-- .. and the result of a call over a list
+abbrev pub list_says : {A : Type 0} → Result A ListRefusal → ListAnswer A
+list_says (Ok a) = gives_all a
+list_says (Err (Whole e)) = refused_whole (number_of e)
+list_says (Err (At e i)) = refused_at (number_of e) i
 
 -- the number of a checksum that was not refused
-abbrev pub summed : Sum → ℕ
-summed (Is c) = c
-summed (Refused n) = 0
+abbrev pub summed : Result ℕ Refusal → ℕ
+summed r = result_unwrap_or r 0
 
 -- Number 1: "payload above 65,495 (TCP), 65,507 (UDP, ICMP), 65,515 (IPv4 payload); more than 65,535 bytes to sum or to put in one
 -- capture record"

@@ -5,5 +5,6 @@ pub mod Rfc791
 pub mod Rfc768
 pub mod Rfc9293
 pub mod Rfc792
+pub mod Refusal
 pub mod Answers
 pub mod Written

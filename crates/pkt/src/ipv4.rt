@@ -5,9 +5,10 @@ ghost use Rattle.pkt.specs.Rfc768.{pseudo, nonzero, udp_header};
 ghost use Rattle.pkt.specs.Rfc9293.{tcp_header, tcp_new};
 ghost use Rattle.pkt.specs.Rfc792.{echo_header, icmp_new, echo_new};
 ghost use Rattle.pkt.specs.Sums.{total, canon};
-ghost use Rattle.pkt.specs.Answers.{sum_says, csum_answer, tcp_answer, udp_answer, echo_answer, transport_answer};
+ghost use Rattle.pkt.specs.Answers.{says, csum_answer, tcp_answer, udp_answer, echo_answer, transport_answer};
 
-use crate::{csum, limit, refusal};
+use crate::refusal::Refusal;
+use crate::{csum, limit};
 
 pub mod proto {
     pub const ICMP: u8 = 1;
@@ -25,13 +26,6 @@ pub mod flags {
     pub const DF: u16 = 0x4000;
 
     pub const MF: u16 = 0x2000;
-}
-
-// A checksum, or the number of the refusal.
-#[derive(Clone, Copy, Drop)]
-pub enum Sum {
-    Is(u16),
-    Refused(u8),
 }
 
 // What an IPv4 header says. The first byte is 0x45, and the checksum is worked out.
@@ -305,13 +299,13 @@ impl icmp_hdr {
 }
 
 // The checksum of any bytes.
-pub fn ip_csum(buf: &[u8]) -> Sum
-    ensures { sum_says result ≡ csum_answer buf.now }
+pub fn ip_csum(buf: &[u8]) -> Result<u16, Refusal>
+    ensures { says result ≡ csum_answer buf.now }
 {
     if buf.len() > limit::BYTES {
-        return Sum::Refused(refusal::TOO_LONG);
+        return Err(Refusal::TooLong);
     }
-    Sum::Is(csum::ip_csum_fold(csum::ip_csum_partial(buf)))
+    Ok(csum::ip_csum_fold(csum::ip_csum_partial(buf)))
 }
 
 // The sum of an address's two words.
@@ -342,12 +336,12 @@ impl ip_pseudo_hdr {
 
 // The checksum of a whole transport part between two addresses. It is 0 exactly where the part's own
 // checksum verifies.
-pub fn transport_csum(saddr: u32, daddr: u32, proto: u8, part: &[u8]) -> Sum
-    ensures { sum_says result ≡ transport_answer saddr daddr proto part.now }
+pub fn transport_csum(saddr: u32, daddr: u32, proto: u8, part: &[u8]) -> Result<u16, Refusal>
+    ensures { says result ≡ transport_answer saddr daddr proto part.now }
 {
     let n = part.len();
     if n > limit::IP_PAYLOAD {
-        return Sum::Refused(refusal::TOO_LONG);
+        return Err(Refusal::TooLong);
     }
     let pseudo = ip_pseudo_hdr {
         src: saddr,
@@ -355,16 +349,16 @@ pub fn transport_csum(saddr: u32, daddr: u32, proto: u8, part: &[u8]) -> Sum
         proto,
         len: n as u16,
     };
-    Sum::Is(csum::finished(pseudo.csum_partial(), b"", part))
+    Ok(csum::finished(pseudo.csum_partial(), b"", part))
 }
 
 // The checksum of a TCP segment between two addresses.
-pub fn tcp_csum(saddr: u32, daddr: u32, h: tcp_hdr, payload: &[u8]) -> Sum
-    ensures { sum_says result ≡ tcp_answer saddr daddr h payload.now }
+pub fn tcp_csum(saddr: u32, daddr: u32, h: tcp_hdr, payload: &[u8]) -> Result<u16, Refusal>
+    ensures { says result ≡ tcp_answer saddr daddr h payload.now }
 {
     let n = payload.len();
     if n > limit::TCP_PAYLOAD {
-        return Sum::Refused(refusal::TOO_LONG);
+        return Err(Refusal::TooLong);
     }
     let pseudo = ip_pseudo_hdr {
         src: saddr,
@@ -373,23 +367,23 @@ pub fn tcp_csum(saddr: u32, daddr: u32, h: tcp_hdr, payload: &[u8]) -> Sum
         len: (20 + n) as u16,
     };
     let header = h.to_bytes(0);
-    Sum::Is(csum::finished(pseudo.csum_partial(), &header, payload))
+    Ok(csum::finished(pseudo.csum_partial(), &header, payload))
 }
 
 // A computed 0 is sent as all ones, since a field of 0 says that there is no checksum.
-fn nonzero_of(csum: u16) -> u16
+pub fn nonzero(csum: u16) -> u16
     ensures { result ≡ nonzero csum }
 {
     if csum == 0 { 0xffff } else { csum }
 }
 
 // The checksum of a UDP datagram between two addresses.
-pub fn udp_csum(saddr: u32, daddr: u32, h: udp_hdr, payload: &[u8]) -> Sum
-    ensures { sum_says result ≡ udp_answer saddr daddr h payload.now }
+pub fn udp_csum(saddr: u32, daddr: u32, h: udp_hdr, payload: &[u8]) -> Result<u16, Refusal>
+    ensures { says result ≡ udp_answer saddr daddr h payload.now }
 {
     let n = payload.len();
     if n > limit::UDP_PAYLOAD {
-        return Sum::Refused(refusal::TOO_LONG);
+        return Err(Refusal::TooLong);
     }
     let pseudo = ip_pseudo_hdr {
         src: saddr,
@@ -398,16 +392,16 @@ pub fn udp_csum(saddr: u32, daddr: u32, h: udp_hdr, payload: &[u8]) -> Sum
         len: (8 + n) as u16,
     };
     let header = h.to_bytes(0);
-    Sum::Is(nonzero_of(csum::finished(pseudo.csum_partial(), &header, payload)))
+    Ok(nonzero(csum::finished(pseudo.csum_partial(), &header, payload)))
 }
 
 // The checksum of an ICMP echo.
-pub fn icmp_csum(h: icmp_hdr, echo: icmp_echo_hdr, payload: &[u8]) -> Sum
-    ensures { sum_says result ≡ echo_answer h echo payload.now }
+pub fn icmp_csum(h: icmp_hdr, echo: icmp_echo_hdr, payload: &[u8]) -> Result<u16, Refusal>
+    ensures { says result ≡ echo_answer h echo payload.now }
 {
     if payload.len() > limit::UDP_PAYLOAD {
-        return Sum::Refused(refusal::TOO_LONG);
+        return Err(Refusal::TooLong);
     }
     let header = h.to_bytes(echo, 0);
-    Sum::Is(csum::finished(0, &header, payload))
+    Ok(csum::finished(0, &header, payload))
 }

@@ -16,6 +16,6 @@ returns c =
     let p : List ℕ = a.payload.now in
     simp (le-ltb 65507 (length p) (omega (arith, c.if-n-gt-UDP_PAYLOAD.false)))
     (ap gives
-    (c.nonzero_of.ensures ∙ ap nonzero c.finished.ensures
+    (c.nonzero.ensures ∙ ap nonzero c.finished.ensures
     ∙ ap₂ (λ (k : ℕ) (l : List ℕ). nonzero (65535 - canon (k + total l + total p))) c.csum_partial.ensures c.to_bytes-header.ensures
     ∙ udp_finished a.saddr a.daddr a.h p (λ i. (known i).fits)))

@@ -1,6 +1,6 @@
 -- By the two cases of the definition.
 use Rattle.pkt.proofs.Headers.{nonzero_zero, nonzero_pos}
-use Rattle.pkt.proofs.ipv4.nonzero_of.Goals as goal
+use Rattle.pkt.proofs.ipv4.nonzero.Goals as goal
 
 pub returns-then-csum-eq0 : goal.returns-then-csum-eq0
 returns-then-csum-eq0 c = nonzero_zero c.args.csum c.if-csum-eq0.true
