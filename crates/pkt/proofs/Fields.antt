@@ -1,9 +1,17 @@
 -- Laws of numbers in bytes, each over the width.
-use Rattle.std.proofs.Common.{◌≡◌, ℕ, zero, suc, ◌+◌, ◌*◌, ◌/◌, ◌%◌, ◌^◌, ◌<◌, List, [], ◌∷◌, ◌++◌, length, sym, refl, ap, ◌∙◌, ap₂, append_assoc, pow-suc, arith, length-append, take_at, drop_at}
+use Rattle.std.proofs.Common.{w32, ◌≡◌, ℕ, zero, suc, ◌+◌, ◌*◌, ◌/◌, ◌%◌, ◌^◌, ◌<◌, List, [], ◌∷◌, ◌++◌, length, sym, refl, ap, ◌∙◌, ap₂, append_assoc, pow-suc, arith, length-append, take_at, drop_at}
 use native.Mathlib.Nat.{one-le-pow}
 use lib.Arith.{mod-mul}
+use Rattle.std.specs.Int.{to_be_bytes}
 use Rattle.pkt.specs.Fields.{be, value, Field, fields, Bytes, widths, ReadBack}
 use Rattle.pkt.proofs.Bytes.{bytes_nil, bytes_cons, bytes_append}
+
+-- The library's bytes of a number are these.
+pub be_four : (x : ℕ) → to_be_bytes w32 x ≡ be 4 x
+be_four x =
+    let two : x / 256 / 256 ≡ x / 65536 = omega arith in
+    let three : x / 65536 / 256 ≡ x / 16777216 = omega arith in
+    rw (two, three) refl
 
 pub be_length : (k x : ℕ) → length (be k x) ≡ k
 be_length zero x = refl

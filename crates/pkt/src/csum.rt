@@ -7,14 +7,14 @@ ghost use Rattle.pkt.specs.Sums.{total, canon, four_words};
 fn word(hi: u8, lo: u8) -> u16
     ensures { result ≡ hi * 256 + lo }
 {
-    (hi as u16) * 256 + lo as u16
+    u16::from_be_bytes([hi, lo])
 }
 
 // RFC 1071, 1: the one's complement addition of two of them. A sum that is below one of its parts has overflowed, and the carry is added at the bottom.
 pub(crate) fn plus(a: u16, b: u16) -> u16
     ensures { result ≡ rfc.plus a b }
 {
-    let sum = std::num::wrapping_add_u16(a, b);
+    let sum = a.wrapping_add(b);
     if sum < a {
         return sum + 1;
     }
@@ -31,37 +31,45 @@ fn four(p: &[u8]) -> u16
     plus(first, second)
 }
 
-// The sum of the words of buf, one after the other. An odd last octet is the high one of a word.
+// A word of what is left: an odd last octet is the high one.
+fn last_word(p: &[u8]) -> u16
+    requires { length p.now ≤ 2 }
+    ensures { result ≡ total p.now }
+{
+    match p {
+        [hi, lo] => word(*hi, *lo),
+        [hi] => word(*hi, 0),
+        _ => 0,
+    }
+}
+
+// The sum of the words of buf, one after the other.
 fn singly(buf: &[u8]) -> u16
-    requires { length buf.now ≤ 65535 }
     ensures { canon result ≡ canon (total buf.now) }
 {
-    let n = buf.len();
     let mut sum: u16 = 0;
-    let mut i = 0;
-    while i + 1 < n {
-        sum = plus(sum, word(buf[i], buf[i + 1]));
-        i += 2;
-    }
-    if i < n {
-        sum = plus(sum, word(buf[i], 0));
+    for pair in buf.chunks(2) {
+        sum = plus(sum, last_word(pair));
     }
     sum
 }
 
+// The sum of the words of eight octets, or of the last ones.
+fn eight(p: &[u8]) -> u16
+    ensures { canon result ≡ canon (total p.now) }
+{
+    if p.len() == 8 { four(p) } else { singly(p) }
+}
+
 // The sum of the words of buf: four in a turn, and what is left one by one.
 pub(crate) fn ip_csum_partial(buf: &[u8]) -> u16
-    requires { length buf.now ≤ 65535 }
     ensures { canon result ≡ canon (total buf.now) }
 {
-    let n = buf.len();
     let mut sum: u16 = 0;
-    let mut i = 0;
-    while i + 7 < n {
-        sum = plus(sum, four(&buf[i..]));
-        i += 8;
+    for part in buf.chunks(8) {
+        sum = plus(sum, eight(part));
     }
-    plus(sum, singly(&buf[i..]))
+    sum
 }
 
 // RFC 1071, 1, (2): the one's complement of the sum. There is nothing left to fold.
@@ -73,7 +81,6 @@ pub(crate) fn ip_csum_fold(running: u16) -> u16
 
 // The checksum of a header and the payload behind it, from the sum of what stands before them.
 pub(crate) fn finished(before: u16, header: &[u8], payload: &[u8]) -> u16
-    requires { (length header.now ≤ 65535) × (length payload.now ≤ 65535) }
     ensures { result ≡ 65535 - canon (before + total header.now + total payload.now) }
 {
     let sum = plus(

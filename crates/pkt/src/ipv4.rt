@@ -62,27 +62,33 @@ impl ip_hdr {
     fn with_csum(self, csum: u16) -> [u8; 20]
         ensures { result ≡ ip_bytes self csum }
     {
+        let tot_len = self.tot_len.to_be_bytes();
+        let id = self.id.to_be_bytes();
+        let frag_off = self.frag_off.to_be_bytes();
+        let csum = csum.to_be_bytes();
+        let saddr = self.saddr.to_be_bytes();
+        let daddr = self.daddr.to_be_bytes();
         [
             0x45,
             self.tos,
-            (self.tot_len / 256 % 256) as u8,
-            (self.tot_len % 256) as u8,
-            (self.id / 256 % 256) as u8,
-            (self.id % 256) as u8,
-            (self.frag_off / 256 % 256) as u8,
-            (self.frag_off % 256) as u8,
+            tot_len[0],
+            tot_len[1],
+            id[0],
+            id[1],
+            frag_off[0],
+            frag_off[1],
             self.ttl,
             self.protocol,
-            (csum / 256 % 256) as u8,
-            (csum % 256) as u8,
-            (self.saddr / 256 / 256 / 256 % 256) as u8,
-            (self.saddr / 256 / 256 % 256) as u8,
-            (self.saddr / 256 % 256) as u8,
-            (self.saddr % 256) as u8,
-            (self.daddr / 256 / 256 / 256 % 256) as u8,
-            (self.daddr / 256 / 256 % 256) as u8,
-            (self.daddr / 256 % 256) as u8,
-            (self.daddr % 256) as u8,
+            csum[0],
+            csum[1],
+            saddr[0],
+            saddr[1],
+            saddr[2],
+            saddr[3],
+            daddr[0],
+            daddr[1],
+            daddr[2],
+            daddr[3],
         ]
     }
 
@@ -140,27 +146,15 @@ impl tcp_hdr {
     pub fn to_bytes(self, csum: u16) -> [u8; 20]
         ensures { result ≡ tcp_header self csum }
     {
+        let sport = self.sport.to_be_bytes();
+        let dport = self.dport.to_be_bytes();
+        let seq = self.seq.to_be_bytes();
+        let ack = self.ack.to_be_bytes();
+        let window = 0xffffu16.to_be_bytes();
+        let csum = csum.to_be_bytes();
         [
-            (self.sport / 256 % 256) as u8,
-            (self.sport % 256) as u8,
-            (self.dport / 256 % 256) as u8,
-            (self.dport % 256) as u8,
-            (self.seq / 256 / 256 / 256 % 256) as u8,
-            (self.seq / 256 / 256 % 256) as u8,
-            (self.seq / 256 % 256) as u8,
-            (self.seq % 256) as u8,
-            (self.ack / 256 / 256 / 256 % 256) as u8,
-            (self.ack / 256 / 256 % 256) as u8,
-            (self.ack / 256 % 256) as u8,
-            (self.ack % 256) as u8,
-            0x50,
-            self.flags,
-            0xff, // the window
-            0xff,
-            (csum / 256 % 256) as u8,
-            (csum % 256) as u8,
-            0,
-            0,
+            sport[0], sport[1], dport[0], dport[1], seq[0], seq[1], seq[2], seq[3], ack[0], ack[1],
+            ack[2], ack[3], 0x50, self.flags, window[0], window[1], csum[0], csum[1], 0, 0,
         ]
     }
 }
@@ -178,16 +172,12 @@ impl udp_hdr {
     pub fn to_bytes(self, csum: u16) -> [u8; 8]
         ensures { result ≡ udp_header self csum }
     {
-        let udp_hdr { sport, dport, len } = self;
+        let sport = self.sport.to_be_bytes();
+        let dport = self.dport.to_be_bytes();
+        let len = self.len.to_be_bytes();
+        let csum = csum.to_be_bytes();
         [
-            (sport / 256 % 256) as u8,
-            (sport % 256) as u8,
-            (dport / 256 % 256) as u8,
-            (dport % 256) as u8,
-            (len / 256 % 256) as u8,
-            (len % 256) as u8,
-            (csum / 256 % 256) as u8,
-            (csum % 256) as u8,
+            sport[0], sport[1], dport[0], dport[1], len[0], len[1], csum[0], csum[1],
         ]
     }
 }
@@ -285,15 +275,11 @@ impl icmp_hdr {
     pub fn to_bytes(self, echo: icmp_echo_hdr, csum: u16) -> [u8; 8]
         ensures { result ≡ echo_header self echo csum }
     {
+        let csum = csum.to_be_bytes();
+        let id = echo.id.to_be_bytes();
+        let seq = echo.seq.to_be_bytes();
         [
-            self.typ,
-            self.code,
-            (csum / 256 % 256) as u8,
-            (csum % 256) as u8,
-            (echo.id / 256 % 256) as u8,
-            (echo.id % 256) as u8,
-            (echo.seq / 256 % 256) as u8,
-            (echo.seq % 256) as u8,
+            self.typ, self.code, csum[0], csum[1], id[0], id[1], seq[0], seq[1],
         ]
     }
 }

@@ -1,40 +1,21 @@
--- What is summed and what is left always fold to the whole; at the end one octet or none is left.
-use Rattle.std.proofs.Common.{◌≡◌, ℕ, ◌+◌, drop, refl, ap, ◌∙◌, zero-add, arith}
+-- A word in a turn: what is summed and what is left fold to the whole.
+use Rattle.std.proofs.Common.{◌≡◌, ℕ, ◌+◌, refl, ap, ◌∙◌, arith}
 use Rattle.pkt.specs.Sums.{total, canon}
-use Rattle.pkt.proofs.Checksum.{canon_plus, canon_sum, total_two, total_one, total_none}
+use Rattle.pkt.proofs.Checksum.{chunk_step, total_none}
 use Rattle.pkt.proofs.csum.singly.Goals as goal
 
-pub loop-i-init : goal.loop-i-init
-loop-i-init c = (omega arith, refl, rw zero-add)
-
-pub loop-i-preserved : goal.loop-i-preserved
-loop-i-preserved c =
-    let buf = c.args.buf.now in
-    let i : ℕ = c.loop-i.i in
-    let s : ℕ = c.loop-i.sum in
-    let w : ℕ = c.word.result in
-    let left : s + w + total (drop (i + 2) buf) ≡ s + total (drop i buf) = omega (arith, c.word.ensures, total_two buf i (omega arith)) in (
-      omega arith,
-      refl,
-      ap (λ (k : ℕ). canon (k + total (drop (i + 2) buf))) c.plus-sum.ensures
-          ∙ canon_plus s w (total (drop (i + 2) buf))
-          ∙ ap canon left
-          ∙ c.loop-i.invariant.2,
+pub loop-pair-preserved : goal.loop-pair-preserved
+loop-pair-preserved c =
+    let n = c.in-Some.ensures.steps in
+    let i = c.loop-pair.invariant in (
+      n.0 ∙ i.0,
+      ap (λ (m : ℕ). canon (m + total c.next.new.self.rest.now)) c.plus-sum.ensures
+          ∙ chunk_step 2 c.loop-pair.sum c.last_word.result c.loop-pair.pair-iterator.rest.now c.in-Some.pair.now c.next.new.self.rest.now refl n.1.0
+          (omega (arith, n.1.1, i.0)) (ap canon c.last_word.ensures)
+          ∙ i.1,
     )
 
-pub returns-then-i-n : goal.returns-then-i-n
-returns-then-i-n c =
-    let buf = c.args.buf.now in
-    let i : ℕ = c.loop-i.i in
-    let s : ℕ = c.loop-i.sum in
-    let w : ℕ = c.word-then-i-n.result in
-    let left : s + w ≡ s + total (drop i buf) = omega (arith, c.word-then-i-n.ensures, total_one buf i (omega arith)) in
-    ap canon c.plus-sum-then-i-n.ensures ∙ canon_sum s w ∙ ap canon left ∙ c.loop-i.invariant.2
-
-pub returns-else-i-n : goal.returns-else-i-n
-returns-else-i-n c =
-    let buf = c.args.buf.now in
-    let i : ℕ = c.loop-i.i in
-    let s : ℕ = c.loop-i.sum in
-    let left : s ≡ s + total (drop i buf) = omega (arith, total_none buf i (omega arith)) in
-    ap canon left ∙ c.loop-i.invariant.2
+pub returns : goal.returns
+returns c =
+    let none : total c.loop-pair.pair-iterator.rest.now ≡ 0 = total_none c.loop-pair.pair-iterator.rest.now 0 (omega (arith, c.in-None.ensures.steps.1.0)) in
+    ap canon (omega (arith, none)) ∙ c.loop-pair.invariant.1
