@@ -3,7 +3,8 @@ use Rattle.std.proofs.Common.{◌≡◌, ℕ, ◌+◌, ◌%◌, ◌≤◌, Bool,
 use native.Mathlib.Decide.{dec_le}
 use Rattle.ezpkt.specs.Ip4.{fragment_of, tail_of}
 use Rattle.ezpkt.specs.declared.ip4.Template.{Template}
-use Rattle.ezpkt.specs.declared.build.Built.{Built}
+use Rattle.std.specs.Prelude.{Result}
+use Rattle.pkt.specs.declared.refusal.Refusal.{Refusal}
 use Rattle.pkt.specs.Answers.{refused, gives, most_udp, most_ip, most_offset}
 use Rattle.pkt.proofs.Deciding.{bounded}
 use Rattle.ezpkt.specs.Build.{fragment_size, sized_answer, datagram_answer, fragment_answer, answer_of, size_of, Answered}
@@ -60,7 +61,7 @@ gives_short (Echo x) n room k e = let f = sized_fits 65507 28 n room k e in omeg
 gives_short (Piece q) n room k e = let f = (piece_fits q n room k e).1 in omega (arith, f.few, f.is_size)
 
 -- `tail` hands on the length modulo 65,536: a payload of more bytes is refused whatever it asks for.
-pub tail_answered : (t : Template) (off : ℕ) (p o : List ℕ) (r : Built) (o' : List ℕ)
+pub tail_answered : (t : Template) (off : ℕ) (p o : List ℕ) (r : Result ℕ Refusal) (o' : List ℕ)
     → Answered (fragment_of t off (length p % 65536)) p o r o' → Answered (tail_of t off (length p)) p o r o'
 tail_answered t off p o r o' x = go (dec_le (length p) 65515)
   where

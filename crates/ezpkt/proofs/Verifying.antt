@@ -1,7 +1,7 @@
 -- What is built verifies: each packet's IPv4 header, and its transport checksum where it has one. The length that is answered is the
 -- packet's, and its total length.
 use Rattle.std.proofs.Common.{◌≡◌, ℕ, ◌+◌, ◌≤◌, List, ◌++◌, length, take, drop, sym, refl, ap, ◌∙◌, arith, take_at, drop_at}
-use Rattle.pkt.specs.Answers.{Answer, gives}
+use Rattle.pkt.specs.Answers.{Answer, gives, says}
 use Rattle.pkt.specs.Fields.{value, Field, field, Bytes, widths}
 use Rattle.pkt.specs.Rfc1071.{Verifies, checksum}
 use Rattle.pkt.specs.Rfc791.{ip_fields, ip_bytes, ip_header}
@@ -11,14 +11,14 @@ use Rattle.pkt.specs.Written.{written, leaves}
 use Rattle.pkt.specs.declared.ipv4.ip_hdr.{ip_hdr}
 use Rattle.pkt.proofs.Fields.{field_at_lem}
 use Rattle.pkt.proofs.Headers.{ip_length, ip_verifies, tcp_verifies, udp_verifies, echo_verifies}
-use Rattle.ezpkt.specs.Answers.{built_says}
 use Rattle.ezpkt.specs.Build.{flow_ip, tcp_hdr_of, udp_hdr_of, echo_type, tcp_packet, udp_packet, echo_packet, piece_packet, packet_of, size_of, answer_of, Answered, BuiltTotal}
 use Rattle.ezpkt.specs.declared.build.TcpSegment.{TcpSegment}
 use Rattle.ezpkt.specs.declared.build.UdpDatagram.{UdpDatagram}
 use Rattle.ezpkt.specs.declared.build.IcmpEcho.{IcmpEcho}
 use Rattle.ezpkt.specs.declared.build.Request.{Request}
 use Rattle.ezpkt.specs.declared.build.Request.TheVariants.{Tcp, Udp, Echo, Piece}
-use Rattle.ezpkt.specs.declared.build.Built.{Built}
+use Rattle.std.specs.Prelude.{Result}
+use Rattle.pkt.specs.declared.refusal.Refusal.{Refusal}
 use Rattle.ezpkt.proofs.Deciding.{gives_size, gives_short}
 use Rattle.ezpkt.proofs.Sizes.{size_is}
 
@@ -68,7 +68,7 @@ packet_front q p o o' n a e =
     rw (e ∙ ap (λ (s : Answer ℕ). leaves s (packet_of q p) o) a, take_at (packet_of q p) _ n size)
 
 -- and that is the packet's length.
-pub built_packet : (q : Request) (p o o' : List ℕ) (r : Built) (n : ℕ) → Answered q p o r o' → built_says r ≡ gives n
+pub built_packet : (q : Request) (p o o' : List ℕ) (r : Result ℕ Refusal) (n : ℕ) → Answered q p o r o' → says r ≡ gives n
     → (length (packet_of q p) ≡ n) × (take n o' ≡ packet_of q p)
 built_packet q p o o' r n x e =
     let a : answer_of q (length p) (length o) ≡ gives n = sym x.answer ∙ e in

@@ -1,8 +1,8 @@
 -- What a request to build is answered, and what it leaves in the lent buffer: document 01, 'Bytes of a header', 'Pieces' and
 -- 'Numbered answers'.
-use Rattle.std.specs.Prelude.{◌≡◌, ℕ, ◌+◌, ◌-◌, ◌*◌, min, Bool, cond, not, List, ◌++◌, length, take, drop, ◌==◌, nat_lt}
+use Rattle.std.specs.Prelude.{◌≡◌, ℕ, ◌+◌, ◌-◌, ◌*◌, min, Bool, cond, not, List, ◌++◌, length, take, drop, ◌==◌, nat_lt, Result}
 use Rattle.std.proofs.Math.Seq.{slice}
-use Rattle.pkt.specs.Answers.{Answer, refused, gives, fitting, most_tcp, most_udp, most_ip, most_offset}
+use Rattle.pkt.specs.Answers.{Answer, refused, gives, says, fitting, most_tcp, most_udp, most_ip, most_offset}
 use Rattle.pkt.specs.Fields.{value}
 use Rattle.pkt.specs.Rfc791.{ip_header, ip_default}
 use Rattle.pkt.specs.Rfc768.{udp_header, udp_checksum}
@@ -12,7 +12,7 @@ use Rattle.pkt.specs.declared.ipv4.ip_hdr.{ip_hdr}
 use Rattle.pkt.specs.declared.ipv4.tcp_hdr.{tcp_hdr}
 use Rattle.pkt.specs.declared.ipv4.udp_hdr.{udp_hdr}
 use Rattle.pkt.specs.Written.{Wrote}
-use Rattle.ezpkt.specs.Answers.{built_says}
+use Rattle.pkt.specs.declared.refusal.Refusal.{Refusal}
 use Rattle.ezpkt.specs.declared.Marks.{Marks}
 use Rattle.ezpkt.specs.declared.build.TcpSegment.{TcpSegment}
 use Rattle.ezpkt.specs.declared.build.UdpDatagram.{UdpDatagram}
@@ -20,7 +20,6 @@ use Rattle.ezpkt.specs.declared.build.IcmpEcho.{IcmpEcho}
 use Rattle.ezpkt.specs.declared.build.IpPiece.{IpPiece}
 use Rattle.ezpkt.specs.declared.build.Request.{Request}
 use Rattle.ezpkt.specs.declared.build.Request.TheVariants.{Tcp, Udp, Echo, Piece}
-use Rattle.ezpkt.specs.declared.build.Built.{Built}
 
 -- Document 02, T-12: "With TOS 0 and TTL 64 all packets equal the Rust's as before": those of a new flow
 abbrev pub unmarked : Marks
@@ -166,11 +165,11 @@ answer_of (Echo e) n room = sized_answer most_udp 28 n room
 answer_of (Piece q) n room = fragment_answer q n room
 
 -- A call's whole promise: for a request, a payload p and a buffer o before, the one answer and the one buffer after.
-abbrev pub Answered : Request → List ℕ → List ℕ → Built → List ℕ → Type 0
-Answered q p o r o' = Wrote built_says (answer_of q (length p) (length o)) (packet_of q p) o r o'
+abbrev pub Answered : Request → List ℕ → List ℕ → Result ℕ Refusal → List ℕ → Type 0
+Answered q p o r o' = Wrote says (answer_of q (length p) (length o)) (packet_of q p) o r o'
 
 -- "the length is the total length written": a length that is answered is the number in the packet's field of its total length, bytes 2 and 3.
 abbrev pub BuiltTotal : Type 0
 BuiltTotal =
-    (q : Request) (p o o' : List ℕ) (r : Built) (n : ℕ) → Answered q p o r o' → built_says r ≡ gives n
+    (q : Request) (p o o' : List ℕ) (r : Result ℕ Refusal) (n : ℕ) → Answered q p o r o' → says r ≡ gives n
     → value 0 (take 2 (drop 2 (packet_of q p))) ≡ n

@@ -1,4 +1,3 @@
-pub mod Answers
 pub mod Build
 pub mod Ip4
 pub mod Udp4

@@ -1,13 +1,13 @@
 // One request to build names one kind of packet.
 ghost use Rattle.std.specs.Prelude.{◌≡◌, ◌≤◌};
-ghost use Rattle.pkt.specs.Answers.{most_ip};
-ghost use Rattle.ezpkt.specs.Answers.{built_says};
+ghost use Rattle.pkt.specs.Answers.{says, most_ip};
 ghost use Rattle.ezpkt.specs.Build.{tcp_hdr_of, sized_answer, datagram_answer, fragment_answer, answer_of, Answered};
 
 use crate::ip4::Template;
 use crate::{Marks, ip4, write};
 use pkt::ipv4::tcp_hdr;
-use pkt::{limit, refusal};
+use pkt::limit;
+use pkt::refusal::Refusal;
 
 // A TCP segment between two addresses and ports.
 #[repr(C)]
@@ -80,57 +80,50 @@ pub enum Request {
     Piece(IpPiece),
 }
 
-// The length of the packet that was built, or the number of the refusal.
-#[derive(Clone, Copy, Drop)]
-pub enum Built {
-    Packet(usize),
-    Refused(u8),
-}
-
-// A packet of head bytes and n more, of which there may be at most most.
-fn sized(most: usize, head: usize, n: usize, room: usize) -> Built
+// The length of a packet of head bytes and n more, of which there may be at most most.
+fn sized(most: usize, head: usize, n: usize, room: usize) -> Result<usize, Refusal>
     requires { (most ≤ most_ip) × (head ≤ 40) }
-    ensures { built_says result ≡ sized_answer most head n room }
+    ensures { says result ≡ sized_answer most head n room }
 {
     if n > most {
-        return Built::Refused(refusal::TOO_LONG);
+        return Err(Refusal::TooLong);
     }
     let size = head + n;
     if room < size {
-        return Built::Refused(refusal::NO_ROOM);
+        return Err(Refusal::NoRoom);
     }
-    Built::Packet(size)
+    Ok(size)
 }
 
-fn sized_datagram(u: UdpDatagram, n: usize, room: usize) -> Built
-    ensures { built_says result ≡ datagram_answer u n room }
+fn sized_datagram(u: UdpDatagram, n: usize, room: usize) -> Result<usize, Refusal>
+    ensures { says result ≡ datagram_answer u n room }
 {
     if u.csum {
         return sized(limit::UDP_PAYLOAD, 28, n, room);
     }
-    Built::Refused(refusal::NO_CHECKSUM)
+    Err(Refusal::NoChecksum)
 }
 
-fn sized_piece(q: IpPiece, n: usize, room: usize) -> Built
-    ensures { built_says result ≡ fragment_answer q n room }
+fn sized_piece(q: IpPiece, n: usize, room: usize) -> Result<usize, Refusal>
+    ensures { says result ≡ fragment_answer q n room }
 {
     let off = q.off;
     if n > limit::IP_PAYLOAD {
-        return Built::Refused(refusal::TOO_LONG);
+        return Err(Refusal::TooLong);
     }
     if off > limit::OFFSET {
-        return Built::Refused(refusal::BAD_OFFSET);
+        return Err(Refusal::BadOffset);
     }
     let size = ip4::fragment_size(off, q.len, n);
     if room < size {
-        return Built::Refused(refusal::NO_ROOM);
+        return Err(Refusal::NoRoom);
     }
-    Built::Packet(size)
+    Ok(size)
 }
 
-// What build answers for a payload of n bytes and an output of room bytes, with nothing written.
-pub fn answer(req: Request, n: usize, room: usize) -> Built
-    ensures { built_says result ≡ answer_of req n room }
+// What build answers for a payload of n bytes and an output of room bytes, the packet's length or a refusal, with nothing written.
+pub fn answer(req: Request, n: usize, room: usize) -> Result<usize, Refusal>
+    ensures { says result ≡ answer_of req n room }
 {
     match req {
         Request::Tcp(_) => sized(limit::TCP_PAYLOAD, 40, n, room),
@@ -140,15 +133,11 @@ pub fn answer(req: Request, n: usize, room: usize) -> Built
     }
 }
 
-// Builds the packet at the start of out, or refuses and leaves out as it was.
-pub fn build(req: Request, payload: &[u8], out: &mut [u8]) -> Built
+// Builds the packet at the start of out and answers its length, or refuses and leaves out as it was.
+pub fn build(req: Request, payload: &[u8], out: &mut [u8]) -> Result<usize, Refusal>
     ensures { Answered req payload.now out.old result out.new }
 {
-    match answer(req, payload.len(), out.len()) {
-        Built::Refused(number) => Built::Refused(number),
-        Built::Packet(size) => {
-            write::packet(req, payload, out);
-            Built::Packet(size)
-        }
-    }
+    let len = answer(req, payload.len(), out.len())?;
+    write::packet(req, payload, out);
+    Ok(len)
 }

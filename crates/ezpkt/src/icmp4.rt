@@ -1,10 +1,11 @@
 // Echoes and replies of an ICMP flow.
 ghost use Rattle.std.specs.Prelude.{◌≡◌};
-ghost use Rattle.ezpkt.specs.Answers.{built_says};
-ghost use Rattle.ezpkt.specs.Icmp4.{new_icmp_flow, icmp_marked, echo_sent_says, with_flow, Echoed, ping_of, pong_of, pinged, ponged};
+ghost use Rattle.ezpkt.specs.Icmp4.{new_icmp_flow, icmp_marked, Echoed, ping_of, pong_of, pinged, ponged};
+ghost use Rattle.ezpkt.specs.declared.build.Request.TheVariants.{Echo};
 
-use crate::build::{Built, IcmpEcho, Request};
+use crate::build::{IcmpEcho, Request};
 use crate::{Marks, build};
+use pkt::refusal::Refusal;
 
 // The two addresses, the numbers of the next echo and of the next reply, which count apart, and what every packet is marked with.
 #[repr(C)]
@@ -17,21 +18,19 @@ pub struct IcmpFlow {
     pub marks: Marks,
 }
 
-// The flow after a packet and the packet's length, or the number of the refusal.
+// The flow after a packet, and the packet's length.
 #[derive(Clone, Copy, Drop)]
-pub enum EchoSent {
-    Packet(IcmpFlow, usize),
-    Refused(u8),
+pub struct EchoSent {
+    pub flow: IcmpFlow,
+    pub size: usize,
 }
 
-// The flow with the packet, if there is one.
-fn with_flow(built: Built, flow: IcmpFlow) -> EchoSent
-    ensures { echo_sent_says result ≡ with_flow flow (built_says built) }
+// A packet that leaves this flow.
+fn send(echo: IcmpEcho, flow: IcmpFlow, bytes: &[u8], out: &mut [u8]) -> Result<EchoSent, Refusal>
+    ensures { Echoed (Echo echo) flow bytes.now out.old result out.new }
 {
-    match built {
-        Built::Packet(size) => EchoSent::Packet(flow, size),
-        Built::Refused(number) => EchoSent::Refused(number),
-    }
+    let size = build::build(Request::Echo(echo), bytes, out)?;
+    Ok(EchoSent { flow, size })
 }
 
 impl IcmpFlow {
@@ -52,42 +51,42 @@ impl IcmpFlow {
     pub fn marked(self, marks: Marks) -> Self
         ensures { result ≡ icmp_marked self marks }
     {
-        let mut next = self;
-        next.marks = marks;
-        next
+        Self { marks, ..self }
     }
 
     // The client's next echo, carrying bytes, at the start of out; the ping number moves on.
-    pub fn echo(self, bytes: &[u8], out: &mut [u8]) -> EchoSent
+    pub fn echo(self, bytes: &[u8], out: &mut [u8]) -> Result<EchoSent, Refusal>
         ensures { Echoed (ping_of self) (pinged self) bytes.now out.old result out.new }
     {
-        let marks = self.marks;
-        let request = IcmpEcho {
+        let echo = IcmpEcho {
             saddr: self.cl,
             daddr: self.sv,
             reply: false,
             seq: self.ping_seq,
-            marks,
+            marks: self.marks,
         };
-        let mut next = self;
-        next.ping_seq = std::num::wrapping_add_u16(self.ping_seq, 1);
-        with_flow(build::build(Request::Echo(request), bytes, out), next)
+        let flow = Self {
+            ping_seq: self.ping_seq.wrapping_add(1),
+            ..self
+        };
+        send(echo, flow, bytes, out)
     }
 
     // The server's next reply, carrying bytes, at the start of out; the pong number moves on.
-    pub fn echo_reply(self, bytes: &[u8], out: &mut [u8]) -> EchoSent
+    pub fn echo_reply(self, bytes: &[u8], out: &mut [u8]) -> Result<EchoSent, Refusal>
         ensures { Echoed (pong_of self) (ponged self) bytes.now out.old result out.new }
     {
-        let marks = self.marks;
-        let request = IcmpEcho {
+        let reply = IcmpEcho {
             saddr: self.sv,
             daddr: self.cl,
             reply: true,
             seq: self.pong_seq,
-            marks,
+            marks: self.marks,
         };
-        let mut next = self;
-        next.pong_seq = std::num::wrapping_add_u16(self.pong_seq, 1);
-        with_flow(build::build(Request::Echo(request), bytes, out), next)
+        let flow = Self {
+            pong_seq: self.pong_seq.wrapping_add(1),
+            ..self
+        };
+        send(reply, flow, bytes, out)
     }
 }

@@ -3,8 +3,9 @@ ghost use Rattle.std.specs.Prelude.{◌≡◌, ◌%◌, length};
 ghost use Rattle.ezpkt.specs.Build.{fragment_size, Answered};
 ghost use Rattle.ezpkt.specs.Ip4.{fragment_of, tail_of, datagram_of};
 
-use crate::build::{Built, IpPiece, Request};
+use crate::build::{IpPiece, Request};
 use crate::{build, write};
+use pkt::refusal::Refusal;
 
 // What every piece of a payload says in its header.
 #[repr(C)]
@@ -29,14 +30,20 @@ pub fn fragment_size(off: u16, len: u16, n: usize) -> usize
 }
 
 // len blocks of the payload from block off, as far as they are there.
-pub fn fragment(template: Template, payload: &[u8], off: u16, len: u16, out: &mut [u8]) -> Built
+pub fn fragment(
+    template: Template,
+    payload: &[u8],
+    off: u16,
+    len: u16,
+    out: &mut [u8],
+) -> Result<usize, Refusal>
     ensures { Answered (fragment_of template off len) payload.now out.old result out.new }
 {
     build::build(Request::Piece(IpPiece { template, off, len }), payload, out)
 }
 
 // All of the payload from block off.
-pub fn tail(template: Template, payload: &[u8], off: u16, out: &mut [u8]) -> Built
+pub fn tail(template: Template, payload: &[u8], off: u16, out: &mut [u8]) -> Result<usize, Refusal>
     ensures { Answered (tail_of template off (length payload.now)) payload.now out.old result out.new }
 {
     let len = (payload.len() % 65536) as u16;
@@ -44,7 +51,7 @@ pub fn tail(template: Template, payload: &[u8], off: u16, out: &mut [u8]) -> Bui
 }
 
 // The whole payload.
-pub fn datagram(template: Template, payload: &[u8], out: &mut [u8]) -> Built
+pub fn datagram(template: Template, payload: &[u8], out: &mut [u8]) -> Result<usize, Refusal>
     ensures { Answered (datagram_of template (length payload.now)) payload.now out.old result out.new }
 {
     tail(template, payload, 0, out)

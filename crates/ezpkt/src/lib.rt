@@ -15,7 +15,7 @@ use pkt::ipv4::ip_hdr;
 
 // An address and a port.
 #[repr(C)]
-#[derive(Clone, Copy, Drop)]
+#[derive(Clone, Copy, PartialEq, Eq, Drop)]
 pub struct SocketAddrV4 {
     pub ip: u32,
     pub port: u16,

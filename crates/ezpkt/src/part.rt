@@ -5,19 +5,12 @@ ghost use Rattle.std.specs.Prelude.{◌≡◌, take, drop};
 pub fn front(s: &[u8], n: usize) -> &[u8]
     ensures { result.now ≡ take n s.now }
 {
-    if s.len() < n {
-        return s;
-    }
-    &s[0..n]
+    s.get(..n).unwrap_or(s)
 }
 
 // The bytes of s from the n-th on.
 pub fn back(s: &[u8], n: usize) -> &[u8]
     ensures { result.now ≡ drop n s.now }
 {
-    let len = s.len();
-    if len < n {
-        return &s[len..];
-    }
-    &s[n..]
+    s.get(n..).unwrap_or(&[])
 }

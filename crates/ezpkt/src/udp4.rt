@@ -1,11 +1,12 @@
 // Datagrams of a UDP flow.
 ghost use Rattle.ezpkt.specs.Build.{Answered};
-ghost use Rattle.ezpkt.specs.Udp4.{new_udp_flow, udp_marked, dgram_of, source_of};
+ghost use Rattle.ezpkt.specs.Udp4.{new_udp_flow, udp_marked, dgram_of};
 ghost use Rattle.std.specs.Prelude.{◌≡◌, take, drop};
 ghost use Rattle.ezpkt.specs.declared.build.Request.TheVariants.{Udp};
 
-use crate::build::{Built, Request, UdpDatagram};
+use crate::build::{Request, UdpDatagram};
 use crate::{Marks, SocketAddrV4, build, part};
+use pkt::refusal::Refusal;
 
 // The two ends, and what every packet is marked with.
 #[repr(C)]
@@ -16,36 +17,19 @@ pub struct UdpFlow {
     pub marks: Marks,
 }
 
-// Another source address than the flow's, or none.
-#[derive(Clone, Copy, Drop)]
-pub enum SrcIp {
-    Own,
-    Other(u32),
-}
-
-// The choices that go with a datagram: source address, flags and offset, checksum.
+// The choices that go with a datagram: another source address than the flow's, flags and offset, checksum.
 #[derive(Clone, Copy, Drop)]
 pub struct Choices {
-    pub srcip: SrcIp,
+    pub srcip: Option<u32>,
     pub frag_off: u16,
     pub csum: bool,
-}
-
-fn source(own: u32, srcip: SrcIp) -> u32
-    ensures { result ≡ source_of own srcip }
-{
-    match srcip {
-        SrcIp::Own => own,
-        SrcIp::Other(ip) => ip,
-    }
 }
 
 fn dgram(marks: Marks, from: SocketAddrV4, to: SocketAddrV4, choices: Choices) -> UdpDatagram
     ensures { result ≡ dgram_of marks from to choices }
 {
-    let srcip = choices.srcip;
     UdpDatagram {
-        saddr: source(from.ip, srcip),
+        saddr: choices.srcip.unwrap_or(from.ip),
         daddr: to.ip,
         sport: from.port,
         dport: to.port,
@@ -71,29 +55,33 @@ impl UdpFlow {
     pub fn marked(self, marks: Marks) -> Self
         ensures { result ≡ udp_marked self marks }
     {
-        let mut next = self;
-        next.marks = marks;
-        next
+        Self { marks, ..self }
     }
 
     // A datagram from the client to the server, carrying bytes, at the start of out.
-    pub fn client_dgram(self, bytes: &[u8], choices: Choices, out: &mut [u8]) -> Built
+    pub fn client_dgram(
+        self,
+        bytes: &[u8],
+        choices: Choices,
+        out: &mut [u8],
+    ) -> Result<usize, Refusal>
         ensures { Answered (Udp (dgram_of self.marks self.cl self.sv choices)) bytes.now out.old result out.new }
     {
-        let cl = self.cl;
-        let sv = self.sv;
-        let marks = self.marks;
-        build::build(Request::Udp(dgram(marks, cl, sv, choices)), bytes, out)
+        let datagram = dgram(self.marks, self.cl, self.sv, choices);
+        build::build(Request::Udp(datagram), bytes, out)
     }
 
     // A datagram from the server to the client, carrying bytes, at the start of out.
-    pub fn server_dgram(self, bytes: &[u8], choices: Choices, out: &mut [u8]) -> Built
+    pub fn server_dgram(
+        self,
+        bytes: &[u8],
+        choices: Choices,
+        out: &mut [u8],
+    ) -> Result<usize, Refusal>
         ensures { Answered (Udp (dgram_of self.marks self.sv self.cl choices)) bytes.now out.old result out.new }
     {
-        let cl = self.cl;
-        let sv = self.sv;
-        let marks = self.marks;
-        build::build(Request::Udp(dgram(marks, sv, cl, choices)), bytes, out)
+        let datagram = dgram(self.marks, self.sv, self.cl, choices);
+        build::build(Request::Udp(datagram), bytes, out)
     }
 }
 

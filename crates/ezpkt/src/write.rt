@@ -1,7 +1,7 @@
 // The writers behind a decision: what they are asked for is known to fit.
 ghost use Rattle.std.specs.Prelude.{◌≡◌, ◌+◌, ◌≤◌, min, ◌++◌, length};
 ghost use Rattle.pkt.specs.Written.{written};
-ghost use Rattle.pkt.specs.Answers.{gives, summed, most_tcp, most_udp, most_ip};
+ghost use Rattle.pkt.specs.Answers.{gives, most_tcp, most_udp, most_ip};
 ghost use Rattle.pkt.specs.Rfc791.{ip_header};
 ghost use Rattle.ezpkt.specs.Build.{flow_ip, echo_type, start_at, end_at, piece_flags, piece_ip, flag_bit, tcp_packet, udp_packet, echo_packet, piece_packet, packet_of, answer_of, size_of};
 ghost use Rattle.ezpkt.specs.declared.build.Request.TheVariants.{Piece};
@@ -10,7 +10,7 @@ use crate::Marks;
 use crate::build::{IcmpEcho, IpPiece, Request, TcpSegment, UdpDatagram};
 use pkt::copying::copy;
 use pkt::ipv4;
-use pkt::ipv4::{Sum, icmp_echo_hdr, icmp_hdr, ip_hdr, udp_hdr};
+use pkt::ipv4::{icmp_echo_hdr, icmp_hdr, ip_hdr, udp_hdr};
 
 // src at the start of dst, whose other bytes stay.
 fn put(src: &[u8], dst: &mut [u8])
@@ -35,25 +35,17 @@ fn put_all(ip: &[u8; 20], head: &[u8], payload: &[u8], out: &mut [u8])
 fn flow_ip(marks: Marks, protocol: u8, size: u16, frag_off: u16, saddr: u32, daddr: u32) -> [u8; 20]
     ensures { result ≡ ip_header (flow_ip marks protocol size frag_off saddr daddr) }
 {
-    let mut ip = ip_hdr::default();
-    ip.tos = marks.tos;
-    ip.ttl = marks.ttl;
-    ip.tot_len = size;
-    ip.frag_off = frag_off;
-    ip.protocol = protocol;
-    ip.saddr = saddr;
-    ip.daddr = daddr;
+    let ip = ip_hdr {
+        tos: marks.tos,
+        ttl: marks.ttl,
+        tot_len: size,
+        frag_off,
+        protocol,
+        saddr,
+        daddr,
+        ..ip_hdr::default()
+    };
     ip.to_bytes()
-}
-
-// The number of a checksum that was not refused.
-fn number(sum: Sum) -> u16
-    ensures { result ≡ summed sum }
-{
-    match sum {
-        Sum::Is(csum) => csum,
-        Sum::Refused(_) => 0,
-    }
 }
 
 fn tcp(t: TcpSegment, payload: &[u8], out: &mut [u8])
@@ -61,10 +53,9 @@ fn tcp(t: TcpSegment, payload: &[u8], out: &mut [u8])
     ensures { out.new ≡ written (tcp_packet t payload.now) out.old }
 {
     let h = t.hdr();
-    let csum = number(ipv4::tcp_csum(t.saddr, t.daddr, h, payload));
-    let marks = t.marks;
+    let csum = ipv4::tcp_csum(t.saddr, t.daddr, h, payload).unwrap_or(0);
     let ip = flow_ip(
-        marks,
+        t.marks,
         ipv4::proto::TCP,
         (40 + payload.len()) as u16,
         t.frag_off,
@@ -85,10 +76,9 @@ fn udp(u: UdpDatagram, payload: &[u8], out: &mut [u8])
         dport: u.dport,
         len: (8 + n) as u16,
     };
-    let csum = number(ipv4::udp_csum(u.saddr, u.daddr, h, payload));
-    let marks = u.marks;
+    let csum = ipv4::udp_csum(u.saddr, u.daddr, h, payload).unwrap_or(0);
     let ip = flow_ip(
-        marks,
+        u.marks,
         ipv4::proto::UDP,
         (28 + n) as u16,
         u.frag_off,
@@ -115,10 +105,9 @@ fn echo(e: IcmpEcho, payload: &[u8], out: &mut [u8])
 {
     let h = icmp_hdr::new(echo_type(e.reply));
     let numbers = icmp_echo_hdr::new(e.seq);
-    let csum = number(ipv4::icmp_csum(h, numbers, payload));
-    let marks = e.marks;
+    let csum = ipv4::icmp_csum(h, numbers, payload).unwrap_or(0);
     let ip = flow_ip(
-        marks,
+        e.marks,
         ipv4::proto::ICMP,
         (28 + payload.len()) as u16,
         0,
@@ -136,19 +125,13 @@ pub struct Span {
     pub end: usize,
 }
 
-fn least(a: usize, b: usize) -> usize
-    ensures { result ≡ min a b }
-{
-    if a < b { a } else { b }
-}
-
 pub(crate) fn span_of(off: u16, len: u16, n: usize) -> Span
     ensures { (result.start ≡ start_at off n) × (result.end ≡ end_at off len n) }
 {
     let from = 8 * (off as usize);
     Span {
-        start: least(from, n),
-        end: least(from + 8 * (len as usize), n),
+        start: from.min(n),
+        end: (from + 8 * (len as usize)).min(n),
     }
 }
 

@@ -2,25 +2,18 @@
 use Rattle.ezpkt.proofs.Deciding.{gives_size}
 use Rattle.ezpkt.specs.Build.{packet_of}
 use Rattle.pkt.specs.Written.{leaves}
-use Rattle.ezpkt.specs.Answers.{built_says}
-use Rattle.pkt.specs.Answers.{Answer, gives}
+use Rattle.pkt.specs.Answers.{Answer, gives, says}
 use Rattle.std.proofs.Common.{ℕ, sym, ap, ◌∙◌}
 use Rattle.ezpkt.proofs.build.build.Goals as goal
 
 pub packet-requires : goal.packet-requires
 packet-requires c =
     let a = c.args in
-    let e = sym c.answer.ensures ∙ ap built_says c.in-Packet.is in
+    let e = sym c.answer.ensures ∙ ap says c.in_ok-len.was in
     e ∙ ap gives (sym (gives_size a.req _ _ _ e))
 
-pub returns-in-Refused : goal.returns-in-Refused
-returns-in-Refused c =
+pub returns : goal.returns
+returns c =
     let a = c.args in
-    let e = sym c.answer.ensures ∙ ap built_says c.in-Refused.is in
-    record { answer = sym e; after = ap (λ (r : Answer ℕ). leaves r (packet_of a.req a.payload.now) a.out.now) (sym e) }
-
-pub returns-in-Packet : goal.returns-in-Packet
-returns-in-Packet c =
-    let a = c.args in
-    let e = sym c.answer.ensures ∙ ap built_says c.in-Packet.is in
+    let e = sym c.answer.ensures ∙ ap says c.in_ok-len.was in
     record { answer = sym e; after = c.packet.ensures ∙ ap (λ (r : Answer ℕ). leaves r (packet_of a.req a.payload.now) a.out.now) (sym e) }

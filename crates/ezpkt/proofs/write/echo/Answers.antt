@@ -15,11 +15,11 @@ returns c =
     let p : List ℕ = a.payload.now in
     let h = c.new-h.ensures ∙ ap icmp_new c.echo_type.ensures in
     let n = c.new-numbers.ensures in
-    let csum = c.number-csum.ensures ∙ summed_is c.icmp_csum.result 65507 (length p) _ c.icmp_csum.ensures c.requires.0 in
+    let csum = c.unwrap_or-csum.ensures ∙ summed_is c.icmp_csum.result 65507 (length p) _ c.icmp_csum.ensures c.requires.0 in
     c.put_all.ensures
     ∙ ap₂ (λ (x y : List ℕ). written (x ++ (y ++ p)) a.out.now)
     c.flow_ip-ip.ensures
     (c.to_bytes-head.ensures
-    ∙ ap₂ (λ (x : icmp_hdr) (y : icmp_echo_hdr). echo_header x y c.number-csum.result) h n
+    ∙ ap₂ (λ (x : icmp_hdr) (y : icmp_echo_hdr). echo_header x y c.unwrap_or-csum.result) h n
     ∙ ap (echo_header (icmp_new (echo_type a.e.reply)) (echo_new a.e.seq))
     (csum ∙ ap₂ (λ (x : icmp_hdr) (y : icmp_echo_hdr). echo_checksum x y p) h n))

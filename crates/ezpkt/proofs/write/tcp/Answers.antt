@@ -11,7 +11,7 @@ unfolding tcp_packet
 returns c =
     let a = c.args in
     let p : List ℕ = a.payload.now in
-    let csum = c.number-csum.ensures ∙ summed_is c.tcp_csum.result 65495 (length p) _ c.tcp_csum.ensures c.requires.0 in
+    let csum = c.unwrap_or-csum.ensures ∙ summed_is c.tcp_csum.result 65495 (length p) _ c.tcp_csum.ensures c.requires.0 in
     c.put_all.ensures
     ∙ ap₂ (λ (x y : List ℕ). written (x ++ (y ++ p)) a.out.now)
     c.flow_ip-ip.ensures
