@@ -1,4 +1,4 @@
--- What the answers of checking say, in document 01's terms.
+-- What examining answers of a whole packet.
 use Rattle.inspect.specs.declared.header.IpRead.{IpRead}
 use Rattle.inspect.specs.declared.check.Kind.{Kind}
 use Rattle.inspect.specs.declared.check.Whole.{Whole}
