@@ -3,7 +3,7 @@
 use mathlib.Core.Path.{◌≡◌, refl, ap, ◌∙◌}
 use mathlib.Core.Logic.{◌⊎◌, inl, inr}
 use mathlib.Core.Bool.{Bool, true, false, not, Bool-discrete, cond}
-use mathlib.Core.Option.{Option, some}
+use Rattle.std.specs.Prelude.{Option, Some}
 use mathlib.Core.List.Memᴰ
 use mathlib.Core.List.{List, []}
 use Prim.Native.Nat.{ℕ, suc, ◌+◌, ◌*◌, ◌/◌, ◌≤◌, ◌<◌, min}
@@ -17,7 +17,7 @@ use Rattle.assembly.specs.Cut.{requested, Part}
 use Rattle.assembly.specs.Calls.{capacity, map_bytes}
 use Rattle.assembly.specs.Demand.{Assembles, AllAcceptable}
 use Rattle.assembly.proofs.Steps.{fits_of}
-use Rattle.assembly.proofs.Pieces.{Some, None, any}
+use Rattle.assembly.proofs.Pieces.{SomeOf, NoneOf, any}
 use Rattle.assembly.proofs.Describes.{Good, Describes, spoiled, sound, run_describes, any_order, spoilt_exactly}
 use Rattle.assembly.proofs.Parts.{part_of, part_acceptable, parts_never_spoilt, parts_complete, parts_held}
 
@@ -29,28 +29,28 @@ past_end d off len h p part e =
     two_ends (ap not (eq-eqb _ _ t)) e (λ q. omega (arith, (part_of part).last e))
 
 -- what is held of a complete state
-held_is : (s : State) (d : List ℕ) → complete s ≡ true → s.total ≡ some (length d) → take (length d) s.payload ≡ d → held_bytes s ≡ d
+held_is : (s : State) (d : List ℕ) → complete s ≡ true → s.total ≡ Some (length d) → take (length d) s.payload ≡ d → held_bytes s ≡ d
 unfolding held_bytes bytes_below
 held_is s d c t h =
     ap (λ (b : Bool). cond b (bytes_below s.total s.payload) []) c ∙ ap (λ (o : Option ℕ). bytes_below o s.payload) t ∙ h
 
 -- what 11 asks of a state
-valid_of : (s : State) → ((t : ℕ) → s.total ≡ some t → t ≤ length s.payload) → s.floor ≤ 8 * (length s.payload / 8) + 1 → record_valid s ≡ true
+valid_of : (s : State) → ((t : ℕ) → s.total ≡ Some t → t ≤ length s.payload) → s.floor ≤ 8 * (length s.payload / 8) + 1 → record_valid s ≡ true
 unfolding record_fits
 valid_of s h f = rw (fits_of (length s.payload) s.total h, le-leb _ _ f) refl
 
 good_valid : (κ : Key) (C M : ℕ) (s : State) (ps : List Piece) → AllAcceptable C ps → Good κ C M s ps → record_valid s ≡ true
-unfolding Some None
+unfolding SomeOf NoneOf
 good_valid κ C M s ps ok g = valid_of s (λ t e. total t e (any (λ q. Bool-discrete q.mf false) ps)) (floor g.floor_out)
   where
-    total : (t : ℕ) → s.total ≡ some t → Some (λ q. q.mf ≡ false) ps ⊎ None (λ q. q.mf ≡ false) ps → t ≤ length s.payload
+    total : (t : ℕ) → s.total ≡ Some t → SomeOf (λ q. q.mf ≡ false) ps ⊎ NoneOf (λ q. q.mf ≡ false) ps → t ≤ length s.payload
     total t e (inl q) =
         let h = g.total_in q.0 q.1 q.2 in
         let z : t ≡ end q.0 = cc in
         omega (arith, (ok q.0 q.1).fits, g.size)
     total t e (inr f) = let h = g.total_out f in let z : ◌≡◌ {A = ℕ} 0 1 = cc in absurd (omega arith)
 
-    floor : (s.floor ≡ 0) ⊎ Some (λ q. (q.mf ≡ true) × (s.floor ≡ suc (end q))) ps → s.floor ≤ 8 * (length s.payload / 8) + 1
+    floor : (s.floor ≡ 0) ⊎ SomeOf (λ q. (q.mf ≡ true) × (s.floor ≡ suc (end q))) ps → s.floor ≤ 8 * (length s.payload / 8) + 1
     floor (inl z) = omega arith
     floor (inr q) = omega (arith, q.2.1, (ok q.0 q.1).fits, (ok q.0 q.1).whole q.2.0, g.size)
 

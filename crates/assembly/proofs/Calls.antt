@@ -7,17 +7,18 @@ use native.Mathlib.Omega.{arith}
 use lib.ListN.{length, take}
 use lib.Dec.{leb, eqb}
 use borrow.Author.Tests.{leb-true, leb-false, le-leb, lt-leb, eqb-true, eq-eqb}
-use Rattle.pkt.specs.Answers.{Answer, refused, gives, mapped}
+use Rattle.std.specs.Prelude.{Result, Ok, Err}
+use Rattle.pkt.specs.Answers.{Answer, refused, gives, mapped, says}
+use Rattle.pkt.specs.declared.refusal.Refusal.{Refusal}
+use Rattle.pkt.specs.declared.refusal.Refusal.TheVariants.{BadAssembly}
 use Rattle.inspect.specs.Header.{length_field, data_of}
 use Rattle.inspect.specs.declared.header.IpRead.{IpRead}
 use Rattle.assembly.specs.declared.Key.{Key}
 use Rattle.assembly.specs.declared.Rec.{Rec}
-use Rattle.assembly.specs.declared.Opened.{Opened}
-use Rattle.assembly.specs.declared.Opened.TheVariants as opened
 use Rattle.assembly.specs.Piece.{Piece}
 use Rattle.assembly.specs.Assembly.{State, cleared, opened, step, total_fits, record_fits, record_valid}
 use Rattle.assembly.specs.View.{view, record_of, piece}
-use Rattle.assembly.specs.Answers.{opened_says, payload_after, map_after}
+use Rattle.assembly.specs.Answers.{payload_after, map_after}
 use Rattle.assembly.specs.Carried.{piece_of, fit_answer, head_answer, piece_answer}
 use Rattle.assembly.specs.Calls.{sized, usable, open_answer, Opens, take_answer, ready, put_answer}
 use Rattle.pkt.proofs.Choice.{and_both, pick_yes, pick_no}
@@ -91,8 +92,8 @@ module _ (C M : ℕ) where
   take_front s l r long there = ap (λ (a : Answer Piece). cond (usable C M s) (mapped (step s) a) (refused 11)) (carried_front C s.key l r long there)
 
   -- ---- opening
-  opens_by : (k : Key) (d m d' m' : List ℕ) (r : Opened) (a : Answer State) → open_answer C M k (length d) (length m) ≡ a
-      → opened_says r ≡ mapped record_of a → d' ≡ payload_after a d → m' ≡ map_after a m → Opens C M k d m r d' m'
+  opens_by : (k : Key) (d m d' m' : List ℕ) (r : Result Rec Refusal) (a : Answer State) → open_answer C M k (length d) (length m) ≡ a
+      → says r ≡ mapped record_of a → d' ≡ payload_after a d → m' ≡ map_after a m → Opens C M k d m r d' m'
   opens_by k d m d' m' r a e x y z =
       record {
         answer = x ∙ ap (λ (b : Answer State). mapped record_of b) (sym e);
@@ -101,20 +102,20 @@ module _ (C M : ℕ) where
       }
 
   pub opens_yes : (k : Key) (d m d' m' : List ℕ) (r : Rec) → sized C M (length d) (length m) ≡ true
-      → view r d' m' ≡ cleared k (length d) (length m) false → Opens C M k d m (opened.Open r) d' m'
+      → view r d' m' ≡ cleared k (length d) (length m) false → Opens C M k d m (Ok r) d' m'
   unfolding open_answer
   opens_yes k d m d' m' r e q =
       let z = sized_is (length d) (length m) e in
       let w : view r d' m' ≡ opened k C M = q ∙ ap (λ (n : ℕ). cleared k n (length m) false) z.0 ∙ ap (λ (n : ℕ). cleared k C n false) z.1 in
-      opens_by k d m d' m' (opened.Open r) (gives (opened k C M)) (pick_yes _ _ e)
+      opens_by k d m d' m' (Ok r) (gives (opened k C M)) (pick_yes _ _ e)
       (ap gives (sym (record_of_lem r d' m') ∙ ap record_of w)) (ap (λ (s : State). s.payload) w) (ap (λ (s : State). s.map) w)
 
-  pub opens_no : (k : Key) (d m : List ℕ) → sized C M (length d) (length m) ≡ false → Opens C M k d m (opened.Refused 11) d m
+  pub opens_no : (k : Key) (d m : List ℕ) → sized C M (length d) (length m) ≡ false → Opens C M k d m (Err BadAssembly) d m
   unfolding open_answer
-  opens_no k d m e = opens_by k d m d m (opened.Refused 11) (refused 11) (pick_no _ _ e) refl refl refl
+  opens_no k d m e = opens_by k d m d m (Err BadAssembly) (refused 11) (pick_no _ _ e) refl refl refl
 
   -- the same, where b is the answer of the test
-  pub opens_refused : (k : Key) (d m : List ℕ) (b : Bool) → b ≡ sized C M (length d) (length m) → b ≡ false → Opens C M k d m (opened.Refused 11) d m
+  pub opens_refused : (k : Key) (d m : List ℕ) (b : Bool) → b ≡ sized C M (length d) (length m) → b ≡ false → Opens C M k d m (Err BadAssembly) d m
   opens_refused k d m b e q = opens_no k d m (sym e ∙ q)
 
   -- ---- taking

@@ -6,8 +6,13 @@ use Prim.Native.Nat.{ℕ, ◌+◌, ◌-◌, ◌*◌, ◌%◌, ◌≤◌}
 use native.Mathlib.Omega.{arith}
 use lib.ListN.{length, take}
 use lib.Dec.{ltb, eqb}
-use borrow.Author.Tests.{ltb-true, ltb-false, lt-ltb, le-ltb, eqb-true, eq-eqb, ne_eqb, not-false}
+use borrow.Author.Tests.{ltb-true, ltb-false, lt-ltb, le-ltb, eqb-true, eq-eqb, not-false}
 use Rattle.pkt.specs.Answers.{Answer, refused, gives, and_then, mapped}
+use Rattle.std.specs.Prelude.{Err}
+use Rattle.pkt.specs.Refusal.{number_of}
+use Rattle.assembly.specs.declared.carried.Misfit.{Misfit}
+use Rattle.assembly.specs.declared.carried.Misfit.TheVariants.{NotBlocks, TooFar}
+use Rattle.assembly.specs.Answers.{fit_says, refusal_of}
 use Rattle.inspect.specs.Header.{length_field, read_answer, data_of}
 use Rattle.inspect.specs.declared.header.IpRead.{IpRead}
 use Rattle.pkt.proofs.Deciding.{past, held}
@@ -65,6 +70,11 @@ fit_maps f g C far n h e = go (broken h.mf n) (ltb C (8 * h.off + n))
     go false true = refl
     go false false = ap gives e
 
+-- A piece that has no place is refused by 9 or 10 in an assembly's payload buffer.
+pub fit_refused : (m : Misfit) → fit_says 10 (Err m) ≡ refused (number_of (refusal_of m))
+fit_refused NotBlocks = refl
+fit_refused TooFar = refl
+
 -- What is known of a header h that n bytes behind it fit, and were answered by g.
 pub record Fitted (C n : ℕ) (h g : IpRead) : Type 0 where
   pub is : h ≡ g
@@ -110,23 +120,15 @@ acceptable C k l p e = go (head_answer k l) e
 
 -- ---- equal keys
 
--- two keys differ in the first field that differs
-pub source_differs : (a b : Key) → (a.saddr ≡ b.saddr → ⊥) → false ≡ same_key a b
-unfolding same_key
-source_differs a b s = simp (ne_eqb _ _ s)
+-- Keys are equal where their four fields are.
+in_pairs : (a b c d : Bool) → (a && (b && (c && d))) ≡ (((a && b) && c) && d)
+in_pairs true true c d = refl
+in_pairs true false c d = refl
+in_pairs false b c d = refl
 
-pub destination_differs : (a b : Key) → a.saddr ≡ b.saddr → (a.daddr ≡ b.daddr → ⊥) → false ≡ same_key a b
+pub fields_equal : (a b : Key) (r : Bool) → r ≡ (eqb a.saddr b.saddr && (eqb a.daddr b.daddr && (eqb a.id b.id && eqb a.protocol b.protocol))) → r ≡ same_key a b
 unfolding same_key
-destination_differs a b s d = simp (eq-eqb _ _ s, ne_eqb _ _ d)
-
-pub identification_differs : (a b : Key) → a.saddr ≡ b.saddr → a.daddr ≡ b.daddr → (a.id ≡ b.id → ⊥) → false ≡ same_key a b
-unfolding same_key
-identification_differs a b s d i = simp (eq-eqb _ _ s, eq-eqb _ _ d, ne_eqb _ _ i)
-
--- and where the other three are the same, the protocol tells
-pub by_protocol : (a b : Key) → a.saddr ≡ b.saddr → a.daddr ≡ b.daddr → a.id ≡ b.id → eqb a.protocol b.protocol ≡ same_key a b
-unfolding same_key
-by_protocol a b s d i = simp (eq-eqb _ _ s, eq-eqb _ _ d, eq-eqb _ _ i)
+fields_equal a b r e = e ∙ in_pairs (eqb a.saddr b.saddr) (eqb a.daddr b.daddr) (eqb a.id b.id) (eqb a.protocol b.protocol)
 
 pub is_same : (a b : Key) → a ≡ b → same_key a b ≡ true
 unfolding same_key

@@ -7,15 +7,17 @@ use mathlib.Core.List.{List, [], ◌∷◌, Memᴰ}
 use Prim.Native.Nat.{ℕ, ◌*◌, ◌≤◌}
 use native.Mathlib.Omega.{arith}
 use lib.ListN.{length, take, length-replicate}
-use Rattle.pkt.specs.Answers.{Answer, refused, gives, mapped}
+use Rattle.std.specs.Prelude.{Result, Ok}
+use Rattle.pkt.specs.Answers.{Answer, refused, gives, mapped, says}
+use Rattle.pkt.specs.declared.refusal.Refusal.{Refusal}
 use Rattle.assembly.specs.declared.Key.{Key}
 use Rattle.assembly.specs.declared.Rec.{Rec}
-use Rattle.assembly.specs.declared.Opened.TheVariants.{Open}
+use Rattle.assembly.specs.declared.Outcome.TheVariants.{Waiting, Complete, Spoilt}
 use Rattle.assembly.specs.declared.Taken.{Taken}
 use Rattle.assembly.specs.Piece.{Piece, Acceptable, Contradictory, Same}
-use Rattle.assembly.specs.Assembly.{State, isWaiting, is_complete, isSpoilt, opened, step, run, held_to, complete, held_bytes, outcome}
+use Rattle.assembly.specs.Assembly.{State, opened, step, run, held_to, complete, held_bytes, outcome}
 use Rattle.assembly.specs.View.{view, record_of}
-use Rattle.assembly.specs.Answers.{taken_says, reply_of, state_after, rec_after, payload_after, map_after, standing}
+use Rattle.assembly.specs.Answers.{reply_of, state_after, rec_after, payload_after, map_after, standing}
 use Rattle.assembly.specs.Carried.{piece_answer}
 use Rattle.assembly.specs.Calls.{capacity, map_bytes, sized, usable, open_answer, Opens, take_answer, Takes, stands_answer, Gathered}
 use Rattle.assembly.specs.Demand as demand
@@ -99,7 +101,7 @@ module _ (C : ℕ) (k : Key) where
   )
 
 -- ---- what a call leads to
-opening : (C M : ℕ) (k : Key) (d m d' m' : List ℕ) (r : Rec) → Opens C M k d m (Open r) d' m' → view r d' m' ≡ opened k C M
+opening : (C M : ℕ) (k : Key) (d m d' m' : List ℕ) (r : Rec) → Opens C M k d m (Ok r) d' m' → view r d' m' ≡ opened k C M
 unfolding open_answer
 opening C M k d m d' m' r o = go (sized C M (length d) (length m)) o.answer o.payload_is o.map_is
   where
@@ -109,8 +111,8 @@ opening C M k d m d' m' r o = go (sized C M (length d) (length m)) o.answer o.pa
     go true x y z = let w : r ≡ record_of (opened k C M) = cc in (λ i. view (w i) (y i) (z i)) ∙ view_of (opened k C M)
     go false x y z = let w : ◌≡◌ {A = ℕ} 0 1 = cc in absurd (omega arith)
 
-calling : (C M : ℕ) (r : Rec) (d m l : List ℕ) (a : Taken) (d' m' : List ℕ) → Takes C M (view r d m) l a d' m'
-    → view (rec_after (taken_says a) r) d' m' ≡ after C M (view r d m) l
+calling : (C M : ℕ) (r : Rec) (d m l : List ℕ) (a : Result Taken Refusal) (d' m' : List ℕ) → Takes C M (view r d m) l a d' m'
+    → view (rec_after (says a) r) d' m' ≡ after C M (view r d m) l
 unfolding after
 calling C M r d m l a d' m' t = (λ i. view (rec_after (t.answer i) r) (t.payload_is i) (t.map_is i)) ∙ go (take_answer C M (view r d m) l)
   where
@@ -179,11 +181,11 @@ delivers C M k room =
     }
 
 -- The answer is complete exactly where the total is known and every byte below it held.
-pub says_complete : (s : State) → (outcome s ≡ is_complete) ↔ (complete s ≡ true)
+pub says_complete : (s : State) → (outcome s ≡ Complete) ↔ (complete s ≡ true)
 unfolding outcome complete
 says_complete s = go s.spoilt (held_to s.map s.total)
   where
-    go : (b h : Bool) → (cond b isSpoilt (cond h is_complete isWaiting) ≡ is_complete) ↔ ((not b && h) ≡ true)
+    go : (b h : Bool) → (cond b Spoilt (cond h Complete Waiting) ≡ Complete) ↔ ((not b && h) ≡ true)
     go true h = (λ e. let z : ◌≡◌ {A = ℕ} 0 1 = cc in absurd (omega arith), λ e. absurd (true≢false (sym e)))
     go false true = (λ e. refl, λ e. refl)
     go false false = (λ e. let z : ◌≡◌ {A = ℕ} 0 1 = cc in absurd (omega arith), λ e. absurd (true≢false (sym e)))

@@ -3,7 +3,7 @@
 use mathlib.Core.Path.{◌≡◌, refl, sym, ap, ◌∙◌}
 use mathlib.Core.Logic.{◌↔◌, ◌⊎◌, inl, inr, ⊎_elim}
 use mathlib.Core.Bool.{Bool, true, false, not, cond, true≢false, Bool-discrete}
-use mathlib.Core.Option.{Option, none, some}
+use Rattle.std.specs.Prelude.{Option, None, Some}
 use mathlib.Core.List.Memᴰ
 use mathlib.Core.List.{List, [], ◌∷◌, reverse_aux, Memᴰ}
 use Prim.Native.Nat.{ℕ, suc, ◌+◌, ◌*◌, ◌/◌, ◌≤◌, ◌<◌, max}
@@ -22,7 +22,7 @@ use Rattle.assembly.proofs.Marks.{IsMap, map_mark, bit_mark_out, bit_mark_in, ma
 use Rattle.assembly.proofs.Bytes.{get_d_sets_out, get_d_sets_in}
 use Rattle.assembly.proofs.Blocks.{ClashAt, byte_clash_true, byte_clash_false}
 use Rattle.assembly.proofs.Steps.{state_path}
-use Rattle.assembly.proofs.Pieces.{Same·sym, Contradict·sym, Contradict·irrefl, Contradictory·same, Some, None, all_cons, any, holds?, in_block}
+use Rattle.assembly.proofs.Pieces.{Same·sym, Contradict·sym, Contradict·irrefl, Contradictory·same, SomeOf, NoneOf, all_cons, any, holds?, in_block}
 
 -- a state that is not spoilt, after the pieces ps. (A piece has a byte in block b exactly if it holds place 8·b: `in_block`)
 pub record Good (κ : Key) (C M : ℕ) (s : State) (ps : List Piece) : Type 0 where
@@ -31,13 +31,13 @@ pub record Good (κ : Key) (C M : ℕ) (s : State) (ps : List Piece) : Type 0 wh
   pub size : length s.payload ≡ C
   pub is_map : IsMap M s.map
   pub byte_in : (p : Piece) → Memᴰ p ps → (k : ℕ) → Holds p k → get_or s.payload k 0 ≡ byte_at p k
-  pub byte_out : (k : ℕ) → None (λ p. Holds p k) ps → get_or s.payload k 0 ≡ 0
+  pub byte_out : (k : ℕ) → NoneOf (λ p. Holds p k) ps → get_or s.payload k 0 ≡ 0
   pub bit_in : (p : Piece) → Memᴰ p ps → (b : ℕ) → Holds p (8 * b) → block_bit s.map b ≡ 1
-  pub bit_out : (b : ℕ) → None (λ p. Holds p (8 * b)) ps → block_bit s.map b ≡ 0
-  pub total_in : (p : Piece) → Memᴰ p ps → p.mf ≡ false → s.total ≡ some (end p)
-  pub total_out : None (λ p. p.mf ≡ false) ps → s.total ≡ none
+  pub bit_out : (b : ℕ) → NoneOf (λ p. Holds p (8 * b)) ps → block_bit s.map b ≡ 0
+  pub total_in : (p : Piece) → Memᴰ p ps → p.mf ≡ false → s.total ≡ Some (end p)
+  pub total_out : NoneOf (λ p. p.mf ≡ false) ps → s.total ≡ None
   pub floor_in : (p : Piece) → Memᴰ p ps → p.mf ≡ true → end p < s.floor
-  pub floor_out : (s.floor ≡ 0) ⊎ Some (λ p. (p.mf ≡ true) × (s.floor ≡ suc (end p))) ps
+  pub floor_out : (s.floor ≡ 0) ⊎ SomeOf (λ p. (p.mf ≡ true) × (s.floor ≡ suc (end p))) ps
 
 pub data Describes (κ : Key) (C M : ℕ) (s : State) (ps : List Piece) : Type 0 where
   spoiled : Contradictory ps → s ≡ cleared κ C M true → Describes κ C M s ps
@@ -62,56 +62,56 @@ opened_describes κ C M =
       floor_out = inl refl;
     })
 
-end_same : (f t e : ℕ) → end_clash (some t) f false e ≡ false → t ≡ e
+end_same : (f t e : ℕ) → end_clash (Some t) f false e ≡ false → t ≡ e
 unfolding end_clash
 end_same f t e h = eqb-true t e (not-false _ (or_no (not (eqb t e)) (ltb e f) h).0)
 
 end_floor : (t : Option ℕ) (f e : ℕ) → end_clash t f false e ≡ false → f ≤ e
 unfolding end_clash
-end_floor none f e h = ltb-false e f h
-end_floor (some t) f e h = ltb-false e f (or_no (not (eqb t e)) (ltb e f) h).1
+end_floor None f e h = ltb-false e f h
+end_floor (Some t) f e h = ltb-false e f (or_no (not (eqb t e)) (ltb e f) h).1
 
-end_total : (f t e : ℕ) → end_clash (some t) f true e ≡ false → e < t
+end_total : (f t e : ℕ) → end_clash (Some t) f true e ≡ false → e < t
 unfolding end_clash
 end_total f t e h = leb-false t e h
 
 -- ---- 2. the test finds exactly the contradictions
 module _ (κ : Key) (C M : ℕ) (s : State) (ps : List Piece) (ok : (q : Piece) → Memᴰ q ps → Acceptable C q) (g : Good κ C M s ps) (p : Piece) where
   -- a member with MF clear has the known total for its end; one with MF set has the floor less one
-  total_from : (t : ℕ) → s.total ≡ some t → Some (λ q. (q.mf ≡ false) × (end q ≡ t)) ps
-  unfolding Some
+  total_from : (t : ℕ) → s.total ≡ Some t → SomeOf (λ q. (q.mf ≡ false) × (end q ≡ t)) ps
+  unfolding SomeOf
   total_from t e = go (any (λ q. Bool-discrete q.mf false) ps)
     where
-      go : Some (λ q. q.mf ≡ false) ps ⊎ None (λ q. q.mf ≡ false) ps → Some (λ q. (q.mf ≡ false) × (end q ≡ t)) ps
+      go : SomeOf (λ q. q.mf ≡ false) ps ⊎ NoneOf (λ q. q.mf ≡ false) ps → SomeOf (λ q. (q.mf ≡ false) × (end q ≡ t)) ps
       go (inl q) = let h = g.total_in q.0 q.1 q.2 in (q.0, q.1, (q.2, cc))
       go (inr f) = let h = g.total_out f in let z : ◌≡◌ {A = ℕ} 0 1 = cc in absurd (omega arith)
 
-  floor_from : p.mf ≡ false → end p < s.floor → Some (λ q. Contradict q p) ps
-  unfolding Some
+  floor_from : p.mf ≡ false → end p < s.floor → SomeOf (λ q. Contradict q p) ps
+  unfolding SomeOf
   floor_from mp h = go g.floor_out
     where
-      go : (s.floor ≡ 0) ⊎ Some (λ q. (q.mf ≡ true) × (s.floor ≡ suc (end q))) ps → Some (λ q. Contradict q p) ps
+      go : (s.floor ≡ 0) ⊎ SomeOf (λ q. (q.mf ≡ true) × (s.floor ≡ suc (end q))) ps → SomeOf (λ q. Contradict q p) ps
       go (inl z) = absurd (omega arith)
       go (inr q) = (q.0, q.1, more_after q.2.0 mp (omega (arith, q.2.1)))
 
-  end_true : (t : Option ℕ) → s.total ≡ t → (b : Bool) → p.mf ≡ b → end_clash t s.floor b (end p) ≡ true → Some (λ q. Contradict q p) ps
-  unfolding end_clash Some
-  end_true none et true eb e = absurd (true≢false (sym e))
-  end_true (some t) et true eb e =
+  end_true : (t : Option ℕ) → s.total ≡ t → (b : Bool) → p.mf ≡ b → end_clash t s.floor b (end p) ≡ true → SomeOf (λ q. Contradict q p) ps
+  unfolding end_clash SomeOf
+  end_true None et true eb e = absurd (true≢false (sym e))
+  end_true (Some t) et true eb e =
       let q = total_from t et in
       (q.0, q.1, after_more q.2.0 eb (omega (arith, leb-true t (end p) e, q.2.1)))
-  end_true none et false eb e = floor_from eb (ltb-true _ _ e)
-  end_true (some t) et false eb e = go (or_cases (not (eqb t (end p))) (ltb (end p) s.floor) e)
+  end_true None et false eb e = floor_from eb (ltb-true _ _ e)
+  end_true (Some t) et false eb e = go (or_cases (not (eqb t (end p))) (ltb (end p) s.floor) e)
     where
-      go : (not (eqb t (end p)) ≡ true) ⊎ (ltb (end p) s.floor ≡ true) → Some (λ q. Contradict q p) ps
+      go : (not (eqb t (end p)) ≡ true) ⊎ (ltb (end p) s.floor ≡ true) → SomeOf (λ q. Contradict q p) ps
       go (inl h) =
           let q = total_from t et in
           (q.0, q.1, two_ends q.2.0 eb (λ z. eqb-false t (end p) (not-true _ h) (sym q.2.1 ∙ z)))
       go (inr h) = floor_from eb (ltb-true _ _ h)
 
   -- a member with a byte in a block where p's byte at k is tested: it holds k too, or p goes past its end
-  byte_true : ClashAt s.payload s.map (start p) p.body → Some (λ q. Contradict q p) ps
-  unfolding Some
+  byte_true : ClashAt s.payload s.map (start p) p.body → SomeOf (λ q. Contradict q p) ps
+  unfolding SomeOf
   byte_true c = go (any (λ q. holds? q (8 * (c.place / 8))) ps)
     where
       past : (q : Piece) → Holds q (8 * (c.place / 8)) → Acceptable C q → ¬ (c.place < end q) → (b b' : Bool) → q.mf ≡ b → p.mf ≡ b' → Contradict q p
@@ -126,20 +126,20 @@ module _ (κ : Key) (C M : ℕ) (s : State) (ps : List Piece) (ok : (q : Piece) 
           (λ z. c.other (g.byte_in q m c.place hq ∙ z))
       at q m h (no n) = past q h (ok q m) n q.mf p.mf refl refl
 
-      go : Some (λ q. Holds q (8 * (c.place / 8))) ps ⊎ None (λ q. Holds q (8 * (c.place / 8))) ps → Some (λ q. Contradict q p) ps
+      go : SomeOf (λ q. Holds q (8 * (c.place / 8))) ps ⊎ NoneOf (λ q. Holds q (8 * (c.place / 8))) ps → SomeOf (λ q. Contradict q p) ps
       go (inl q) = (q.0, q.1, at q.0 q.1 q.2 (dec_lt c.place (end q.0)))
       go (inr f) = absurd (omega (arith, g.bit_out (c.place / 8) f, c.is_set))
 
-  pub test_true : clashes s p ≡ true → Some (λ q. Contradict q p) ps
+  pub test_true : clashes s p ≡ true → SomeOf (λ q. Contradict q p) ps
   unfolding clashes
   test_true e = go (or_cases (end_clash s.total s.floor p.mf (end p)) (byte_clash s.payload s.map (start p) p.body) e)
     where
-      go : (end_clash s.total s.floor p.mf (end p) ≡ true) ⊎ (byte_clash s.payload s.map (start p) p.body ≡ true) → Some (λ q. Contradict q p) ps
+      go : (end_clash s.total s.floor p.mf (end p) ≡ true) ⊎ (byte_clash s.payload s.map (start p) p.body ≡ true) → SomeOf (λ q. Contradict q p) ps
       go (inl h) = end_true s.total refl p.mf refl h
       go (inr h) = byte_true (byte_clash_true _ _ _ _ h)
 
-  pub test_false : clashes s p ≡ false → None (λ q. Contradict q p) ps
-  unfolding clashes None
+  pub test_false : clashes s p ≡ false → NoneOf (λ q. Contradict q p) ps
+  unfolding clashes NoneOf
   test_false e q m c = go c
     where
       no_end : end_clash s.total s.floor p.mf (end p) ≡ false
@@ -156,8 +156,8 @@ module _ (κ : Key) (C M : ℕ) (s : State) (ps : List Piece) (ok : (q : Piece) 
       go (more_after mq mp le) = omega (arith, g.floor_in q m mq, end_floor s.total s.floor (end p) (rw mp at no_end))
       go (after_more mq mp le) = omega (arith, end_total s.floor (end q) (end p) (rw (g.total_in q m mq, mp) at no_end))
 
-  pub accept_good : C ≤ 64 * M → Acceptable C p → None (λ q. Contradict q p) ps → Good κ C M (accept s p) (p ∷ ps)
-  unfolding accept None Some new_total new_floor
+  pub accept_good : C ≤ 64 * M → Acceptable C p → NoneOf (λ q. Contradict q p) ps → Good κ C M (accept s p) (p ∷ ps)
+  unfolding accept NoneOf SomeOf new_total new_floor
   accept_good room a f =
       record {
         key_is = g.key_is;
@@ -168,7 +168,7 @@ module _ (κ : Key) (C M : ℕ) (s : State) (ps : List Piece) (ok : (q : Piece) 
         byte_out = λ k no_one. out k (no_one p (Memᴰ.head refl)) ∙ g.byte_out k (λ q m. no_one q (Memᴰ.tail m));
         bit_in = all_cons {P = λ q. (b : ℕ) → Holds q (8 * b) → block_bit (mark s.map p.off n) b ≡ 1} own_bit (λ q m b h. old_bit q m b h (holds? p (8 * b)));
         bit_out = λ b no_one. out_bit b (no_one p (Memᴰ.head refl)) ∙ g.bit_out b (λ q m. no_one q (Memᴰ.tail m));
-        total_in = all_cons {P = λ q. q.mf ≡ false → new_total p.mf s.total (end p) ≡ some (end q)} (λ e. own_total p.mf e) (λ q m e. old_total q m e p.mf refl);
+        total_in = all_cons {P = λ q. q.mf ≡ false → new_total p.mf s.total (end p) ≡ Some (end q)} (λ e. own_total p.mf e) (λ q m e. old_total q m e p.mf refl);
         total_out = λ no_one. out_total p.mf (no_one p (Memᴰ.head refl)) ∙ g.total_out (λ q m. no_one q (Memᴰ.tail m));
         floor_in = all_cons {P = λ q. q.mf ≡ true → end q < new_floor p.mf s.floor (end p)} (λ e. own_floor p.mf e) (λ q m e. old_floor q m e p.mf);
         floor_out = from_floor p.mf refl g.floor_out;
@@ -215,15 +215,15 @@ module _ (κ : Key) (C M : ℕ) (s : State) (ps : List Piece) (ok : (q : Piece) 
       old_bit q m b h (yes y) = own_bit b y
       old_bit q m b h (no z) = out_bit b z ∙ g.bit_in q m b h
 
-      own_total : (b : Bool) → b ≡ false → new_total b s.total (end p) ≡ some (end p)
+      own_total : (b : Bool) → b ≡ false → new_total b s.total (end p) ≡ Some (end p)
       own_total true e = absurd (true≢false e)
       own_total false e = refl
 
-      same_end : (q : Piece) → Memᴰ q ps → q.mf ≡ false → p.mf ≡ false → Dec (end q ≡ end p) → some (end p) ≡ some (end q)
-      same_end q m eq ep (yes e) = ap some (sym e)
+      same_end : (q : Piece) → Memᴰ q ps → q.mf ≡ false → p.mf ≡ false → Dec (end q ≡ end p) → Some (end p) ≡ Some (end q)
+      same_end q m eq ep (yes e) = ap Some (sym e)
       same_end q m eq ep (no ne) = absurd (f q m (two_ends eq ep ne))
 
-      old_total : (q : Piece) → Memᴰ q ps → q.mf ≡ false → (b : Bool) → p.mf ≡ b → new_total b s.total (end p) ≡ some (end q)
+      old_total : (q : Piece) → Memᴰ q ps → q.mf ≡ false → (b : Bool) → p.mf ≡ b → new_total b s.total (end p) ≡ Some (end q)
       old_total q m e true eb = g.total_in q m e
       old_total q m e false eb = same_end q m e eb (ℕ_discrete (end q) (end p))
 
@@ -239,14 +239,14 @@ module _ (κ : Key) (C M : ℕ) (s : State) (ps : List Piece) (ok : (q : Piece) 
       old_floor q m e true = omega (arith, g.floor_in q m e)
       old_floor q m e false = g.floor_in q m e
 
-      from_floor : (b : Bool) → p.mf ≡ b → (s.floor ≡ 0) ⊎ Some (λ q. (q.mf ≡ true) × (s.floor ≡ suc (end q))) ps
-          → (new_floor b s.floor (end p) ≡ 0) ⊎ Some (λ q. (q.mf ≡ true) × (new_floor b s.floor (end p) ≡ suc (end q))) (p ∷ ps)
+      from_floor : (b : Bool) → p.mf ≡ b → (s.floor ≡ 0) ⊎ SomeOf (λ q. (q.mf ≡ true) × (s.floor ≡ suc (end q))) ps
+          → (new_floor b s.floor (end p) ≡ 0) ⊎ SomeOf (λ q. (q.mf ≡ true) × (new_floor b s.floor (end p) ≡ suc (end q))) (p ∷ ps)
       from_floor false eb (inl z) = inl z
       from_floor false eb (inr q) = inr (q.0, Memᴰ.tail q.1, q.2)
       from_floor true eb (inl z) = inr (p, Memᴰ.head refl, (eb, omega arith))
       from_floor true eb (inr q) = larger (dec_le (end p) (end q.0))
         where
-          larger : Dec (end p ≤ end q.0) → (max s.floor (end p + 1) ≡ 0) ⊎ Some (λ r. (r.mf ≡ true) × (max s.floor (end p + 1) ≡ suc (end r))) (p ∷ ps)
+          larger : Dec (end p ≤ end q.0) → (max s.floor (end p + 1) ≡ 0) ⊎ SomeOf (λ r. (r.mf ≡ true) × (max s.floor (end p + 1) ≡ suc (end r))) (p ∷ ps)
           larger (yes h) = inr (q.0, Memᴰ.tail q.1, (q.2.0, omega (arith, q.2.1)))
           larger (no h) = inr (p, Memᴰ.head refl, (eb, omega (arith, q.2.1)))
 
@@ -254,8 +254,8 @@ more : {ps : List Piece} (p : Piece) → Contradictory ps → Contradictory (p �
 more p c = record { one = c.one; other = c.other; one_in = Memᴰ.tail c.one_in; other_in = Memᴰ.tail c.other_in; clash = c.clash }
 
 -- no two contradict each other, and none contradicts p: nor do any two of them with p
-still : {ps : List Piece} {p : Piece} → (Contradictory ps → ⊥) → None (λ q. Contradict q p) ps → Contradictory (p ∷ ps) → ⊥
-unfolding None
+still : {ps : List Piece} {p : Piece} → (Contradictory ps → ⊥) → NoneOf (λ q. Contradict q p) ps → Contradictory (p ∷ ps) → ⊥
+unfolding NoneOf
 still {ps} {p} n f c =
     all_cons {P = λ x. (y : Piece) → Memᴰ y (p ∷ ps) → Contradict x y → ⊥}
     (all_cons {P = λ y. Contradict p y → ⊥} (λ h. Contradict·irrefl h) (λ q m h. f q m (Contradict·sym h)))
@@ -264,13 +264,13 @@ still {ps} {p} n f c =
 
 pub step_describes : (κ : Key) (C M : ℕ) (s : State) (ps : List Piece) (p : Piece) → C ≤ 64 * M → ((q : Piece) → Memᴰ q (p ∷ ps) → Acceptable C q)
     → Describes κ C M s ps → Describes κ C M (step s p) (p ∷ ps)
-unfolding step Some
+unfolding step SomeOf
 step_describes κ C M s ps p room ok d = go d s.spoilt refl
   where
     old : (q : Piece) → Memᴰ q ps → Acceptable C q
     old q m = ok q (Memᴰ.tail m)
 
-    found : Some (λ q. Contradict q p) ps → Contradictory (p ∷ ps)
+    found : SomeOf (λ q. Contradict q p) ps → Contradictory (p ∷ ps)
     found q = record { one = q.0; other = p; one_in = Memᴰ.tail q.1; other_in = Memᴰ.head refl; clash = q.2 }
 
     test : (Contradictory ps → ⊥) → Good κ C M s ps → (b : Bool) → clashes s p ≡ b
@@ -288,7 +288,7 @@ step_describes κ C M s ps p room ok d = go d s.spoilt refl
     go (sound n g) false h = test n g (clashes s p) refl
 
 one_good : (κ : Key) (C M : ℕ) (s s' : State) (ps qs : List Piece) → Same ps qs → Good κ C M s ps → Good κ C M s' qs → s ≡ s'
-unfolding Some None
+unfolding SomeOf NoneOf
 one_good κ C M s s' ps qs same g g' =
     state_path (g.key_is ∙ sym g'.key_is)
     (ext_get_or 0 s.payload s'.payload (g.size ∙ sym g'.size) (λ k h. byte k (any (λ p. holds? p k) ps)))
@@ -297,23 +297,23 @@ one_good κ C M s s' ps qs same g g' =
     (floors g.floor_out g'.floor_out)
     (g.plain ∙ sym g'.plain)
   where
-    back : {P : Piece → Type 0} → None P ps → None P qs
+    back : {P : Piece → Type 0} → NoneOf P ps → NoneOf P qs
     back f q m = f q (same.from q m)
 
-    byte : (k : ℕ) → Some (λ p. Holds p k) ps ⊎ None (λ p. Holds p k) ps → get_or s.payload k 0 ≡ get_or s'.payload k 0
+    byte : (k : ℕ) → SomeOf (λ p. Holds p k) ps ⊎ NoneOf (λ p. Holds p k) ps → get_or s.payload k 0 ≡ get_or s'.payload k 0
     byte k (inl p) = g.byte_in p.0 p.1 k p.2 ∙ sym (g'.byte_in p.0 (same.to p.0 p.1) k p.2)
     byte k (inr f) = g.byte_out k f ∙ sym (g'.byte_out k (back f))
 
-    bits : (b : ℕ) → Some (λ p. Holds p (8 * b)) ps ⊎ None (λ p. Holds p (8 * b)) ps → block_bit s.map b ≡ block_bit s'.map b
+    bits : (b : ℕ) → SomeOf (λ p. Holds p (8 * b)) ps ⊎ NoneOf (λ p. Holds p (8 * b)) ps → block_bit s.map b ≡ block_bit s'.map b
     bits b (inl p) = g.bit_in p.0 p.1 b p.2 ∙ sym (g'.bit_in p.0 (same.to p.0 p.1) b p.2)
     bits b (inr f) = g.bit_out b f ∙ sym (g'.bit_out b (back f))
 
-    total : Some (λ p. p.mf ≡ false) ps ⊎ None (λ p. p.mf ≡ false) ps → s.total ≡ s'.total
+    total : SomeOf (λ p. p.mf ≡ false) ps ⊎ NoneOf (λ p. p.mf ≡ false) ps → s.total ≡ s'.total
     total (inl p) = g.total_in p.0 p.1 p.2 ∙ sym (g'.total_in p.0 (same.to p.0 p.1) p.2)
     total (inr f) = g.total_out f ∙ sym (g'.total_out (back f))
 
-    floors : (s.floor ≡ 0) ⊎ Some (λ p. (p.mf ≡ true) × (s.floor ≡ suc (end p))) ps
-        → (s'.floor ≡ 0) ⊎ Some (λ p. (p.mf ≡ true) × (s'.floor ≡ suc (end p))) qs → s.floor ≡ s'.floor
+    floors : (s.floor ≡ 0) ⊎ SomeOf (λ p. (p.mf ≡ true) × (s.floor ≡ suc (end p))) ps
+        → (s'.floor ≡ 0) ⊎ SomeOf (λ p. (p.mf ≡ true) × (s'.floor ≡ suc (end p))) qs → s.floor ≡ s'.floor
     floors (inl z) (inl z') = z ∙ sym z'
     floors (inl z) (inr q) = absurd (omega (arith, g.floor_in q.0 (same.from q.0 q.1) q.2.0))
     floors (inr p) (inl z') = absurd (omega (arith, g'.floor_in p.0 (same.to p.0 p.1) p.2.0))
@@ -343,7 +343,7 @@ rev_out (p ∷ ps) qs q m = go (rev_out ps (p ∷ qs) q m)
     go (inr h) = ⊎_elim (λ (e : q ≡ p). inl (Memᴰ.head e)) (λ (k : Memᴰ q qs). inr k) (Memᴰ.cases_cons h)
 
 same_good : {κ : Key} {C M : ℕ} {s : State} {ps qs : List Piece} → Same ps qs → Good κ C M s ps → Good κ C M s qs
-unfolding Some None
+unfolding SomeOf NoneOf
 same_good {κ} {C} {M} {s} {ps} {qs} same g =
     record {
       key_is = g.key_is;
@@ -357,7 +357,7 @@ same_good {κ} {C} {M} {s} {ps} {qs} same g =
       total_in = λ p m. g.total_in p (same.from p m);
       total_out = λ f. g.total_out (λ q m. f q (same.to q m));
       floor_in = λ p m. g.floor_in p (same.from p m);
-      floor_out = ⊎_elim (λ (z : s.floor ≡ 0). inl z) (λ (q : Some (λ p. (p.mf ≡ true) × (s.floor ≡ suc (end p))) ps). inr (q.0, same.to q.0 q.1, q.2)) g.floor_out;
+      floor_out = ⊎_elim (λ (z : s.floor ≡ 0). inl z) (λ (q : SomeOf (λ p. (p.mf ≡ true) × (s.floor ≡ suc (end p))) ps). inr (q.0, same.to q.0 q.1, q.2)) g.floor_out;
     }
 
 same_describes : {κ : Key} {C M : ℕ} {s : State} {ps qs : List Piece} → Same ps qs → Describes κ C M s ps → Describes κ C M s qs

@@ -2,7 +2,7 @@
 use mathlib.Core.Path.{◌≡◌, refl, sym, ap, ◌∙◌}
 use mathlib.Core.Logic.{◌↔◌, ◌⊎◌, inl, inr}
 use mathlib.Core.Bool.{Bool, true, false, not, true≢false, Bool-discrete}
-use mathlib.Core.Option.{Option, none, some}
+use Rattle.std.specs.Prelude.{Option, None, Some}
 use mathlib.Core.List.Memᴰ
 use mathlib.Core.List.{List, [], ◌∷◌, Memᴰ}
 use Prim.Native.Nat.{ℕ, zero, suc, ◌+◌, ◌*◌, ◌-◌, ◌/◌, ◌%◌, ◌≤◌, ◌<◌, min}
@@ -17,30 +17,30 @@ use Rattle.assembly.specs.Assembly.{State, opened, run, held_to, complete}
 use Rattle.assembly.specs.Cut.{requested, Part, Covers}
 use Rattle.pkt.proofs.Choice.{and_both}
 use Rattle.assembly.proofs.Marks.{marked_true, marked_of}
-use Rattle.assembly.proofs.Pieces.{Some, None, any, holds?}
+use Rattle.assembly.proofs.Pieces.{SomeOf, NoneOf, any, holds?}
 use Rattle.assembly.proofs.Describes.{Good, Describes, spoiled, sound, run_describes}
 
 -- ---- document 01's "Complete: total known and every byte below it held", for any accepted pieces
 pub complete_exactly : (κ : Key) (C M : ℕ) (s : State) (ps : List Piece) → ((q : Piece) → Memᴰ q ps → Acceptable C q) → Good κ C M s ps
-    → (complete s ≡ true) ↔ ((t : ℕ) × (s.total ≡ some t) × Covers ps t)
-unfolding complete held_to Covers Some None
+    → (complete s ≡ true) ↔ ((t : ℕ) × (s.total ≡ Some t) × Covers ps t)
+unfolding complete held_to Covers SomeOf NoneOf
 complete_exactly κ C M s ps ok g = (λ e. known s.total refl (and_both (not s.spoilt) (held_to s.map s.total) e).1, λ h. rw (g.plain, h.1) (marked_of s.map ((h.0 + 7) / 8) (λ b hb. let q = h.2 (8 * b) (omega arith) in g.bit_in q.0 q.1 b q.2)))
   where
-    held : (t : ℕ) → s.total ≡ some t → (k : ℕ) → k < t → (q : Piece) → Memᴰ q ps → Holds q (8 * (k / 8)) → (b : Bool) → q.mf ≡ b → Holds q k
+    held : (t : ℕ) → s.total ≡ Some t → (k : ℕ) → k < t → (q : Piece) → Memᴰ q ps → Holds q (8 * (k / 8)) → (b : Bool) → q.mf ≡ b → Holds q k
     held t et k hk q m h true e = let w = (ok q m).whole e in record { from = omega arith; till = omega arith }
     held t et k hk q m h false e =
         let r = g.total_in q m e in
         let z : t ≡ end q = cc in
         record { from = omega arith; till = omega arith }
 
-    covers : (t : ℕ) → s.total ≡ some t → marked s.map ((t + 7) / 8) ≡ true → (k : ℕ) → k < t
-        → Some (λ p. Holds p (8 * (k / 8))) ps ⊎ None (λ p. Holds p (8 * (k / 8))) ps → Some (λ p. Holds p k) ps
+    covers : (t : ℕ) → s.total ≡ Some t → marked s.map ((t + 7) / 8) ≡ true → (k : ℕ) → k < t
+        → SomeOf (λ p. Holds p (8 * (k / 8))) ps ⊎ NoneOf (λ p. Holds p (8 * (k / 8))) ps → SomeOf (λ p. Holds p k) ps
     covers t et e k hk (inl q) = (q.0, q.1, held t et k hk q.0 q.1 q.2 q.0.mf refl)
     covers t et e k hk (inr f) = absurd (omega (arith, marked_true s.map ((t + 7) / 8) e (k / 8) (omega arith), g.bit_out (k / 8) f))
 
-    known : (o : Option ℕ) → s.total ≡ o → held_to s.map o ≡ true → (t : ℕ) × (s.total ≡ some t) × Covers ps t
-    known none eo e = absurd (true≢false (sym e))
-    known (some t) eo e = (t, eo, λ k hk. covers t eo e k hk (any (λ p. holds? p (8 * (k / 8))) ps))
+    known : (o : Option ℕ) → s.total ≡ o → held_to s.map o ≡ true → (t : ℕ) × (s.total ≡ Some t) × Covers ps t
+    known None eo e = absurd (true≢false (sym e))
+    known (Some t) eo e = (t, eo, λ k hk. covers t eo e k hk (any (λ p. holds? p (8 * (k / 8))) ps))
 
 -- what a part is
 pub record OfPayload (d : List ℕ) (p : Piece) : Type 0 where
@@ -129,11 +129,11 @@ module _ (κ : Key) (C M : ℕ) (d : List ℕ) (ps : List Piece) (room : C ≤ 6
       go (sound n g) = g
 
   -- a known total is the payload's length
-  parts_total : (t : ℕ) → (run (opened κ C M) ps).total ≡ some t → (t ≡ length d) × (0 < length ps)
-  unfolding Some None
+  parts_total : (t : ℕ) → (run (opened κ C M) ps).total ≡ Some t → (t ≡ length d) × (0 < length ps)
+  unfolding SomeOf NoneOf
   parts_total t e = go (any (λ q. Bool-discrete q.mf false) ps)
     where
-      go : Some (λ q. q.mf ≡ false) ps ⊎ None (λ q. q.mf ≡ false) ps → (t ≡ length d) × (0 < length ps)
+      go : SomeOf (λ q. q.mf ≡ false) ps ⊎ NoneOf (λ q. q.mf ≡ false) ps → (t ≡ length d) × (0 < length ps)
       go (inl q) =
           let h = parts_good.total_in q.0 q.1 q.2 in
           let z : t ≡ end q.0 = cc in
@@ -141,15 +141,15 @@ module _ (κ : Key) (C M : ℕ) (d : List ℕ) (ps : List Piece) (room : C ≤ 6
       go (inr f) = let h = parts_good.total_out f in let z : ◌≡◌ {A = ℕ} 0 1 = cc in absurd (omega arith)
 
   -- covered by at least one piece: one of them is the last
-  parts_last : 0 < length ps → Covers ps (length d) → (run (opened κ C M) ps).total ≡ some (length d)
-  unfolding Some Covers
+  parts_last : 0 < length ps → Covers ps (length d) → (run (opened κ C M) ps).total ≡ Some (length d)
+  unfolding SomeOf Covers
   parts_last h cov = go (length d) refl
     where
-      ends : (q : Piece) → Memᴰ q ps → length d ≤ end q → (b : Bool) → q.mf ≡ b → (run (opened κ C M) ps).total ≡ some (length d)
+      ends : (q : Piece) → Memᴰ q ps → length d ≤ end q → (b : Bool) → q.mf ≡ b → (run (opened κ C M) ps).total ≡ Some (length d)
       ends q m le true e = absurd (omega (arith, (part_of (parts q m)).more e))
-      ends q m le false e = parts_good.total_in q m e ∙ ap some ((part_of (parts q m)).last e)
+      ends q m le false e = parts_good.total_in q m e ∙ ap Some ((part_of (parts q m)).last e)
 
-      go : (n : ℕ) → length d ≡ n → (run (opened κ C M) ps).total ≡ some (length d)
+      go : (n : ℕ) → length d ≡ n → (run (opened κ C M) ps).total ≡ Some (length d)
       go zero e = let q = first ps h in ends q.0 q.1 (omega arith) q.0.mf refl
       go (suc n) e = let q = cov n (omega arith) in ends q.0 q.1 (omega (arith, q.2.till)) q.0.mf refl
 
@@ -166,8 +166,8 @@ module _ (κ : Key) (C M : ℕ) (d : List ℕ) (ps : List Piece) (room : C ≤ 6
     λ h. (complete_exactly κ C M (run (opened κ C M) ps) ps parts_ok parts_good).1 (length d, parts_last h.0 h.1, h.1),
   )
 
-  pub parts_held : complete (run (opened κ C M) ps) ≡ true → ((run (opened κ C M) ps).total ≡ some (length d)) × (take (length d) (run (opened κ C M) ps).payload ≡ d)
-  unfolding Covers Some
+  pub parts_held : complete (run (opened κ C M) ps) ≡ true → ((run (opened κ C M) ps).total ≡ Some (length d)) × (take (length d) (run (opened κ C M) ps).payload ≡ d)
+  unfolding Covers SomeOf
   parts_held e = (
     parts_last c.0 c.1,
     ext_get_or 0 (take (length d) (run (opened κ C M) ps).payload) d

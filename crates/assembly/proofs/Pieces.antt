@@ -28,11 +28,11 @@ pub Contradictory·same : {ps qs : List Piece} → Same ps qs → Contradictory 
 Contradictory·same s c = record { one = c.one; other = c.other; one_in = s.to c.one c.one_in; other_in = s.to c.other c.other_in; clash = c.clash }
 
 -- some member has P, or none has
-unfoldable pub Some : (Piece → Type 0) → List Piece → Type 0
-Some P ps = (p : Piece) × Memᴰ p ps × P p
+unfoldable pub SomeOf : (Piece → Type 0) → List Piece → Type 0
+SomeOf P ps = (p : Piece) × Memᴰ p ps × P p
 
-unfoldable pub None : (Piece → Type 0) → List Piece → Type 0
-None P ps = (p : Piece) → Memᴰ p ps → P p → ⊥
+unfoldable pub NoneOf : (Piece → Type 0) → List Piece → Type 0
+NoneOf P ps = (p : Piece) → Memᴰ p ps → P p → ⊥
 
 pub all_cons : {P : Piece → Type 0} {p : Piece} {ps : List Piece} → P p → ((q : Piece) → Memᴰ q ps → P q) → (q : Piece) → Memᴰ q (p ∷ ps) → P q
 all_cons {P} {p} {ps} h f q m = go (Memᴰ.cases_cons m)
@@ -41,12 +41,12 @@ all_cons {P} {p} {ps} h f q m = go (Memᴰ.cases_cons m)
     go (inl e) = subst P (sym e) h
     go (inr m) = f q m
 
-pub any : {P : Piece → Type 0} → ((p : Piece) → Dec (P p)) → (ps : List Piece) → Some P ps ⊎ None P ps
-unfolding Some None
+pub any : {P : Piece → Type 0} → ((p : Piece) → Dec (P p)) → (ps : List Piece) → SomeOf P ps ⊎ NoneOf P ps
+unfolding SomeOf NoneOf
 any d [] = inr (λ p m h. Memᴰ.not-nil m)
 any {P} d (p ∷ ps) = go (any d ps) (d p)
   where
-    go : Some P ps ⊎ None P ps → Dec (P p) → Some P (p ∷ ps) ⊎ None P (p ∷ ps)
+    go : SomeOf P ps ⊎ NoneOf P ps → Dec (P p) → SomeOf P (p ∷ ps) ⊎ NoneOf P (p ∷ ps)
     go r (yes h) = inl (p, Memᴰ.head refl, h)
     go (inl s) (no n) = inl (s.0, Memᴰ.tail s.1, s.2)
     go (inr f) (no n) = inr (all_cons {P = λ q. P q → ⊥} n f)

@@ -1,22 +1,23 @@
 -- The three ways of a step, and the two tests of a piece.
 use mathlib.Core.Path.{◌≡◌, refl, sym, ap, subst, ◌∙◌}
 use mathlib.Core.Bool.{Bool, true, false, not, ◌&&◌, ◌||◌, cond}
-use mathlib.Core.Option.{Option, none, some}
+use Rattle.std.specs.Prelude.{Option, None, Some, unwrap_or, Result, Ok, Err}
 use mathlib.Core.List.{List, []}
 use Prim.Native.Nat.{ℕ, ◌≤◌}
 use native.Mathlib.Omega.{arith}
 use borrow.Author.Tests.{leb-true, le-leb}
-use lib.ListN.{length, take, length-take}
+use lib.ListN.{length, length-take}
 use Rattle.assembly.specs.declared.Rec.{Rec}
 use Rattle.assembly.specs.declared.Taken.{Taken}
-use Rattle.assembly.specs.declared.Taken.TheVariants as taken
-use Rattle.assembly.specs.declared.Total.{Total}
-use Rattle.assembly.specs.declared.Total.TheVariants.{Known, Unknown}
+use Rattle.assembly.specs.declared.Outcome.{Outcome}
+use Rattle.assembly.specs.declared.Outcome.TheVariants.{Waiting, Complete, Spoilt}
 use Rattle.pkt.specs.Answers.{Answer, refused, gives}
-use Rattle.assembly.specs.View.{total_of, view, known_of, record_of}
-use Rattle.assembly.specs.Answers.{reply, reply_of, taken_says, Steps, standing, standing_of}
+use Rattle.pkt.specs.Refusal.{number_of}
+use Rattle.pkt.specs.declared.refusal.Refusal.{Refusal}
+use Rattle.assembly.specs.View.{view, record_of}
+use Rattle.assembly.specs.Answers.{reply, reply_of, Steps, standing, standing_of}
 use Rattle.assembly.specs.Piece.{Piece, start, end}
-use Rattle.assembly.specs.Assembly.{State, cleared, clashes, end_clash, byte_clash, accept, step, held_to, Outcome, outcome, isWaiting, is_complete, isSpoilt, new_total, total_fits, complete, bytes_below, held_bytes}
+use Rattle.assembly.specs.Assembly.{State, cleared, clashes, end_clash, byte_clash, accept, step, held_to, outcome, new_total, total_fits, complete, bytes_below, held_bytes}
 use Rattle.pkt.proofs.Choice.{pick_yes, pick_no}
 
 module _ (s : State) (p : Piece) where
@@ -56,15 +57,15 @@ pub state_path : {s s' : State} → s.key ≡ s'.key → s.payload ≡ s'.payloa
 state_path k a b c d e = λ i. record { key = k i; payload = a i; map = b i; total = c i; floor = d i; spoilt = e i }
 
 -- ---- the three answers
-pub outcome_spoilt : (s : State) → s.spoilt ≡ true → outcome s ≡ isSpoilt
+pub outcome_spoilt : (s : State) → s.spoilt ≡ true → outcome s ≡ Spoilt
 unfolding outcome
 outcome_spoilt s e = pick_yes _ _ e
 
-pub outcome_plain : (s : State) (b : Bool) → s.spoilt ≡ false → held_to s.map s.total ≡ b → outcome s ≡ cond b is_complete isWaiting
+pub outcome_plain : (s : State) (b : Bool) → s.spoilt ≡ false → held_to s.map s.total ≡ b → outcome s ≡ cond b Complete Waiting
 unfolding outcome
 outcome_plain s b e h =
     pick_no _ _ e
-    ∙ ap (λ (t : Bool). cond t is_complete isWaiting) h
+    ∙ ap (λ (t : Bool). cond t Complete Waiting) h
 
 -- ---- what is held of a complete datagram
 pub held_spoilt : (s : State) → s.spoilt ≡ true → held_bytes s ≡ []
@@ -79,15 +80,15 @@ held_plain s b e h =
     ∙ ap (λ (t : Bool). cond t (bytes_below s.total s.payload) []) h
 
 -- ---- a total that fits
-pub fits_of : (C : ℕ) (o : Option ℕ) → ((t : ℕ) → o ≡ some t → t ≤ C) → total_fits C o ≡ true
+pub fits_of : (C : ℕ) (o : Option ℕ) → ((t : ℕ) → o ≡ Some t → t ≤ C) → total_fits C o ≡ true
 unfolding total_fits
-fits_of C none h = refl
-fits_of C (some t) h = le-leb t C (h t refl)
+fits_of C None h = refl
+fits_of C (Some t) h = le-leb t C (h t refl)
 
-pub fits_at : (C : ℕ) (o : Option ℕ) (t : ℕ) → total_fits C o ≡ true → o ≡ some t → t ≤ C
+pub fits_at : (C : ℕ) (o : Option ℕ) (t : ℕ) → total_fits C o ≡ true → o ≡ Some t → t ≤ C
 unfolding total_fits
-fits_at C none t e q = let z : ◌≡◌ {A = ℕ} 0 1 = cc in absurd (omega arith)
-fits_at C (some u) t e q = let z : t ≡ u = cc in omega (arith, leb-true u C e)
+fits_at C None t e q = let z : ◌≡◌ {A = ℕ} 0 1 = cc in absurd (omega arith)
+fits_at C (Some u) t e q = let z : t ≡ u = cc in omega (arith, leb-true u C e)
 
 -- a wider buffer has room for it too
 pub fits_more : (C D : ℕ) (o : Option ℕ) → C ≤ D → total_fits C o ≡ true → total_fits D o ≡ true
@@ -111,45 +112,36 @@ step_fits C s p e h = spoilt s.spoilt refl
     spoilt false q = clash q (clashes s p) refl
 
 -- ---- the record of a state, and the state of a record
-total_of_lem : (o : Option ℕ) → total_of (known_of o) ≡ o
-total_of_lem (some t) = refl
-total_of_lem none = refl
-
 pub view_of : (s : State) → view (record_of s) s.payload s.map ≡ s
-view_of s = state_path refl refl refl (total_of_lem s.total) refl refl
-
-known_of_lem : (t : Total) → known_of (total_of t) ≡ t
-known_of_lem (Known t) = refl
-known_of_lem Unknown = refl
+view_of s = refl
 
 pub record_of_lem : (r : Rec) (d m : List ℕ) → record_of (view r d m) ≡ r
-record_of_lem r d m = λ i. record { key = r.key; total = known_of_lem r.total i; floor = r.floor; spoilt = r.spoilt }
+record_of_lem r d m = refl
 
 -- ---- a call that takes a piece
 
 -- a step was taken to t, whose record and buffers are there after it
-pub moved : (r : Rec) (d m : List ℕ) (s t : State) (a : Taken) → view r d m ≡ t → taken_says a ≡ gives (reply (outcome (view r d m)) r) → Steps (gives t) s a d m
+pub moved : (r : Rec) (d m : List ℕ) (s t : State) (a : Taken) → view r d m ≡ t → a ≡ reply (outcome (view r d m)) r → Steps (gives t) s (Ok a) d m
 moved r d m s t a e h =
     record {
-      answer =
-          h
-          ∙ ap (λ (r' : Rec). gives (reply (outcome (view r d m)) r')) (sym (record_of_lem r d m))
-          ∙ ap (λ (s' : State). gives (reply_of s')) e;
+      answer = ap gives h ∙ ap (λ (s' : State). gives (reply_of s')) e;
       payload_is = ap (λ (s' : State). s'.payload) e;
       map_is = ap (λ (s' : State). s'.map) e;
     }
 
 -- a refusal leaves the buffers as they were
-pub refused_steps : (s : State) (n : ℕ) → Steps (refused n) s (taken.Refused n) s.payload s.map
-refused_steps s n = record { answer = refl; payload_is = refl; map_is = refl }
+pub refused_steps : (s : State) (e : Refusal) → Steps (refused (number_of e)) s (Err e) s.payload s.map
+refused_steps s e = record { answer = refl; payload_is = refl; map_is = refl }
 
-pub steps_as : {s : State} {r : Taken} {d m : List ℕ} (a b : Answer State) → a ≡ b → Steps b s r d m → Steps a s r d m
+pub steps_as : {s : State} {r : Result Taken Refusal} {d m : List ℕ} (a b : Answer State) → a ≡ b → Steps b s r d m → Steps a s r d m
 steps_as {s} {r} {d} {m} a b e x = subst (λ (y : Answer State). Steps y s r d m) (sym e) x
 
 -- ---- how an assembly stands
-pub stands : (s : State) (o : Outcome) (n : ℕ) → outcome s ≡ o → length (held_bytes s) ≡ n → gives (standing o n) ≡ gives (standing_of s)
-stands s o n e h = λ i. gives (standing (sym e i) (sym h i))
+pub stands_as : (s : State) (o : Outcome) (n : ℕ) → outcome s ≡ o → length (held_bytes s) ≡ n → standing o n ≡ standing_of s
+stands_as s o n e h = λ i. standing (sym e i) (sym h i)
 
--- of the n bytes below a total that fits a payload buffer d
-pub below_length : (n : ℕ) (d l : List ℕ) → l ≡ take n d → n ≤ length d → length l ≡ n
-below_length n d l e h = ap length e ∙ simp length-take (omega arith)
+-- as many bytes are below a total that fits a payload buffer d; none where it is not known
+pub total_length : (o : Option ℕ) (d : List ℕ) → total_fits (length d) o ≡ true → length (bytes_below o d) ≡ unwrap_or o 0
+unfolding bytes_below
+total_length None d e = refl
+total_length (Some t) d e = simp length-take (omega (arith, fits_at (length d) (Some t) t e refl))

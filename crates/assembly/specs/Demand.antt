@@ -1,6 +1,5 @@
 -- Demand 3 over pieces, for a payload buffer of C bytes and a map of M bytes, from an assembly opened for any key.
-use Rattle.std.specs.Prelude.{◌≡◌, ◌↔◌, true, false, ℕ, ◌*◌, ◌≤◌, ◌<◌, length, take}
-use Rattle.std.proofs.Math.Option.{some}
+use Rattle.std.specs.Prelude.{◌≡◌, ◌↔◌, true, false, ℕ, ◌*◌, ◌≤◌, ◌<◌, length, take, Some}
 use mathlib.Core.List.{List, ◌++◌, Memᴰ}
 use Rattle.assembly.specs.declared.Key.{Key}
 use Rattle.assembly.specs.Piece.{Piece, Contradict, Acceptable, Contradictory, Same}
@@ -28,7 +27,7 @@ pub record Assembles (C M : ℕ) (k : Key) : Type 0 where
   pub complete_when : (d : List ℕ) → length d ≤ C → (ps : List Piece) → Built d ps → (complete (run (opened k C M) ps) ≡ true) ↔ ((0 < length ps) × Covers ps (length d))
   -- and it then holds that payload."
   pub held : (d : List ℕ) → length d ≤ C → (ps : List Piece) → Built d ps → complete (run (opened k C M) ps) ≡ true
-      → ((run (opened k C M) ps).total ≡ some (length d)) × (take (length d) (run (opened k C M) ps).payload ≡ d)
+      → ((run (opened k C M) ps).total ≡ Some (length d)) × (take (length d) (run (opened k C M) ps).payload ≡ d)
   -- [so what is held of the complete datagram is that payload]
   pub held_whole : (d : List ℕ) → length d ≤ C → (ps : List Piece) → Built d ps → complete (run (opened k C M) ps) ≡ true → held_bytes (run (opened k C M) ps) ≡ d
   -- The demands' story: "asked for one piece past the payload's end", which contradicts the last piece of the same payload

@@ -1,15 +1,15 @@
 -- Demand 3 over packets, for a payload buffer of C bytes and a map of M bytes, from an assembly opened for any key.
-use Rattle.std.specs.Prelude.{◌≡◌, ◌↔◌, true, ℕ}
+use Rattle.std.specs.Prelude.{◌≡◌, ◌↔◌, true, ℕ, Result, Ok}
 use mathlib.Core.List.{List, [], ◌∷◌, Memᴰ}
-use Rattle.pkt.specs.Answers.{gives, mapped}
+use Rattle.pkt.specs.Answers.{gives, mapped, says}
+use Rattle.pkt.specs.declared.refusal.Refusal.{Refusal}
 use Rattle.assembly.specs.declared.Key.{Key}
 use Rattle.assembly.specs.declared.Rec.{Rec}
-use Rattle.assembly.specs.declared.Opened.TheVariants.{Open}
 use Rattle.assembly.specs.declared.Taken.{Taken}
 use Rattle.assembly.specs.Piece.{Piece, Contradict}
 use Rattle.assembly.specs.Assembly.{State, opened, step}
 use Rattle.assembly.specs.View.{view}
-use Rattle.assembly.specs.Answers.{taken_says, state_after, rec_after}
+use Rattle.assembly.specs.Answers.{state_after, rec_after}
 use Rattle.assembly.specs.Carried.{piece_answer}
 use Rattle.assembly.specs.Calls.{Opens, take_answer, Takes}
 
@@ -45,9 +45,9 @@ pub record TwoContradict (C : ℕ) (k : Key) (ls : List (List ℕ)) : Type 0 whe
 
 pub record Delivers (C M : ℕ) (k : Key) : Type 0 where
   -- "Start from a newly opened assembly." An opening that is not refused leads to it,
-  pub opening : (d m d' m' : List ℕ) (r : Rec) → Opens C M k d m (Open r) d' m' → view r d' m' ≡ opened k C M
+  pub opening : (d m d' m' : List ℕ) (r : Rec) → Opens C M k d m (Ok r) d' m' → view r d' m' ≡ opened k C M
   -- and each call leads on by `after`.
-  pub calling : (r : Rec) (d m l : List ℕ) (a : Taken) (d' m' : List ℕ) → Takes C M (view r d m) l a d' m' → view (rec_after (taken_says a) r) d' m' ≡ after C M (view r d m) l
+  pub calling : (r : Rec) (d m l : List ℕ) (a : Result Taken Refusal) (d' m' : List ℕ) → Takes C M (view r d m) l a d' m' → view (rec_after (says a) r) d' m' ≡ after C M (view r d m) l
   -- Whether a packet is accepted, by which number it is refused, and which piece it carries, does not depend on what came before.
   pub answers : (ls : List (List ℕ)) (l : List ℕ)
       → take_answer C M (take_all C M (opened k C M) ls) l ≡ mapped (step (take_all C M (opened k C M) ls)) (piece_answer C k l)

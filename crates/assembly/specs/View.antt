@@ -1,28 +1,16 @@
 -- What the code's record, its lent buffers and a piece's numbers stand for.
 use Rattle.std.specs.Prelude.{ℕ, List, Bool}
-use Rattle.std.proofs.Math.Option.{Option, none, some}
 use Rattle.assembly.specs.declared.Rec.{Rec}
-use Rattle.assembly.specs.declared.Total.{Total}
-use Rattle.assembly.specs.declared.Total.TheVariants.{Known, Unknown}
 use Rattle.assembly.specs.Piece.{Piece}
 use Rattle.assembly.specs.Assembly.{State}
 
--- "total (known or not)"
-abbrev pub total_of : Total → Option ℕ
-total_of (Known t) = some t
-total_of Unknown = none
-
 -- a record with its payload buffer and its map
 abbrev pub view : Rec → List ℕ → List ℕ → State
-view r d m = record { key = r.key; payload = d; map = m; total = total_of r.total; floor = r.floor; spoilt = r.spoilt }
+view r d m = record { key = r.key; payload = d; map = m; total = r.total; floor = r.floor; spoilt = r.spoilt }
 
 -- and back: the record of a state
-abbrev pub known_of : Option ℕ → Total
-known_of (some t) = Known t
-known_of none = Unknown
-
 abbrev pub record_of : State → Rec
-record_of s = record { key = s.key; total = known_of s.total; floor = s.floor; spoilt = s.spoilt }
+record_of s = record { key = s.key; total = s.total; floor = s.floor; spoilt = s.spoilt }
 
 -- offset, MF and data
 abbrev pub piece : ℕ → Bool → List ℕ → Piece

@@ -1,13 +1,13 @@
 // An assembly of any capacity: that of its payload buffer, for which its map has a bit for each block.
 ghost use Rattle.std.specs.Prelude.{◌≡◌, ◌*◌, length, leb};
 ghost use Rattle.assembly.specs.Assembly.{opened, record_fits};
-ghost use Rattle.assembly.specs.View.{view, total_of};
+ghost use Rattle.assembly.specs.View.{view};
 ghost use Rattle.assembly.specs.Answers.{progress_says};
 ghost use Rattle.assembly.specs.Calls.{ready, Puts, any_progress};
 
 use crate::{Key, Progress, Rec, Taken, carried, record, step};
-use inspect::header::{IpRead, Seen};
-use pkt::refusal;
+use inspect::header::IpRead;
+use pkt::refusal::Refusal;
 
 // Whether a map of `map` bytes has a bit for each block of a payload buffer of `payload`.
 fn has_bits(payload: usize, map: usize) -> bool
@@ -30,7 +30,7 @@ fn is_ready(rec: Rec, payload: &[u8], map: &[u8]) -> bool
 
 // Whether pieces within a payload buffer of so many bytes can lead to this record.
 pub fn fits(rec: Rec, capacity: usize) -> bool
-    ensures { result ≡ record_fits capacity (total_of rec.total) rec.floor }
+    ensures { result ≡ record_fits capacity rec.total rec.floor }
 {
     let total = rec.total;
     let floor = rec.floor;
@@ -45,24 +45,28 @@ pub fn open(key: Key, payload: &mut [u8], map: &mut [u8]) -> Rec
 }
 
 // Takes the piece with this header and this data, or refuses it and leaves the buffers as they were.
-pub fn put(rec: Rec, h: IpRead, body: &[u8], payload: &mut [u8], map: &mut [u8]) -> Taken
+pub fn put(
+    rec: Rec,
+    h: IpRead,
+    body: &[u8],
+    payload: &mut [u8],
+    map: &mut [u8],
+) -> Result<Taken, Refusal>
     ensures { Puts (view rec payload.old map.old) h body.now result payload.new map.new }
 {
     if !is_ready(rec, payload, map) {
-        return Taken::Refused(refusal::BAD_ASSEMBLY);
+        return Err(Refusal::BadAssembly);
     }
-    match carried::fit(payload.len(), refusal::TOO_FAR, body.len(), h) {
-        Seen::Refused(number) => Taken::Refused(number),
-        Seen::Packet(p) => step::take(payload, map, rec, p.off as usize, p.mf, body),
-    }
+    let p = carried::fit(payload.len(), body.len(), h)?;
+    Ok(step::take(payload, map, rec, p.off as usize, p.mf, body))
 }
 
 // How the assembly stands: a complete datagram is the first so many bytes of the payload buffer.
-pub fn progress(rec: Rec, payload: &[u8], map: &[u8]) -> Progress
+pub fn progress(rec: Rec, payload: &[u8], map: &[u8]) -> Result<Progress, Refusal>
     ensures { progress_says result ≡ any_progress (view rec payload.now map.now) }
 {
-    if !is_ready(rec, payload, map) {
-        return Progress::Refused(refusal::BAD_ASSEMBLY);
+    if is_ready(rec, payload, map) {
+        return Ok(step::standing(map, rec));
     }
-    step::standing(map, rec)
+    Err(Refusal::BadAssembly)
 }

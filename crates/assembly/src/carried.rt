@@ -1,12 +1,31 @@
 // The piece that a packet carries, or the number that refuses it.
-ghost use Rattle.std.specs.Prelude.{◌≡◌, ◌+◌, ltb};
-ghost use Rattle.inspect.specs.Answers.{read_says};
+ghost use Rattle.std.specs.Prelude.{◌≡◌, ℕ, ◌+◌, ltb};
+ghost use Rattle.pkt.specs.Answers.{says};
+ghost use Rattle.assembly.specs.Answers.{fit_says, refusal_of};
 ghost use Rattle.assembly.specs.Carried.{key_of, same_key, broken, fit_answer, keyed_answer, head_answer};
 
 use crate::Key;
 use inspect::header;
-use inspect::header::{IpRead, Seen};
-use pkt::refusal;
+use inspect::header::IpRead;
+use pkt::refusal::Refusal;
+
+// Why a piece has no place in a payload: more pieces follow it and it has no whole number of blocks, or it ends above.
+#[derive(Clone, Copy, PartialEq, Eq, Drop)]
+pub enum Misfit {
+    NotBlocks,
+    TooFar,
+}
+
+impl From<Misfit> for Refusal {
+    ghost from_gives = { λ misfit e. e ≡ refusal_of misfit };
+
+    fn from(misfit: Misfit) -> Refusal {
+        match misfit {
+            Misfit::NotBlocks => Refusal::NotBlocks,
+            Misfit::TooFar => Refusal::TooFar,
+        }
+    }
+}
 
 // The key that a packet with this header has.
 pub fn key_of(h: IpRead) -> Key
@@ -23,16 +42,7 @@ pub fn key_of(h: IpRead) -> Key
 pub fn same_key(a: Key, b: Key) -> bool
     ensures { result ≡ same_key a b }
 {
-    if a.saddr != b.saddr {
-        return false;
-    }
-    if a.daddr != b.daddr {
-        return false;
-    }
-    if a.id != b.id {
-        return false;
-    }
-    a.protocol == b.protocol
+    a == b
 }
 
 // Whether more pieces follow n bytes that are no whole number of blocks.
@@ -52,35 +62,34 @@ fn ends_above(cap: usize, start: usize, n: usize) -> bool
     cap - n < start
 }
 
-// Whether a piece of n bytes with this header has a place in a payload of `cap` bytes: where its end is above, `far` refuses it.
-pub fn fit(cap: usize, far: u8, n: usize, h: IpRead) -> Seen
-    ensures { read_says result ≡ fit_answer cap far n h }
+// Whether a piece of n bytes with this header has a place in a payload of `cap` bytes.
+pub fn fit(cap: usize, n: usize, h: IpRead) -> Result<IpRead, Misfit>
+    ensures { (far : ℕ) → fit_says far result ≡ fit_answer cap far n h }
 {
     if is_broken(h.mf, n) {
-        return Seen::Refused(refusal::NOT_BLOCKS);
+        return Err(Misfit::NotBlocks);
     }
     if ends_above(cap, 8 * h.off as usize, n) {
-        return Seen::Refused(far);
+        return Err(Misfit::TooFar);
     }
-    Seen::Packet(h)
+    Ok(h)
 }
 
 // The header, if its key is the assembly's.
-fn keyed(key: Key, h: IpRead) -> Seen
-    ensures { read_says result ≡ keyed_answer key h }
+fn keyed(key: Key, h: IpRead) -> Result<IpRead, Refusal>
+    ensures { says result ≡ keyed_answer key h }
 {
     if same_key(key_of(h), key) {
-        return Seen::Packet(h);
+        return Ok(h);
     }
-    Seen::Refused(refusal::WRONG_KEY)
+    Err(Refusal::WrongKey)
 }
 
 // The header of a packet that has the assembly's key.
-pub(crate) fn read(key: Key, packet: &[u8]) -> Seen
-    ensures { read_says result ≡ head_answer key packet.now }
+#[tactic(auto, unfolding(crate::specs::Carried::head_answer))]
+pub(crate) fn read(key: Key, packet: &[u8]) -> Result<IpRead, Refusal>
+    ensures { says result ≡ head_answer key packet.now }
 {
-    match header::read(packet) {
-        Seen::Refused(number) => Seen::Refused(number),
-        Seen::Packet(h) => keyed(key, h),
-    }
+    let h = header::read(packet)?;
+    keyed(key, h)
 }

@@ -14,8 +14,8 @@ ghost use Rattle.assembly.specs.View.{view};
 ghost use Rattle.assembly.specs.Answers.{progress_says};
 ghost use Rattle.assembly.specs.Calls.{capacity, map_bytes, sized, usable, Opens, Takes, progress_answer};
 
-use inspect::header::Seen;
-use pkt::{limit, refusal};
+use pkt::limit;
+use pkt::refusal::Refusal;
 pub use step::Progress;
 
 // The sizes of the payload buffer and of the map.
@@ -25,7 +25,7 @@ const MAP_BYTES: usize = 1024;
 
 // "identification, source, destination and protocol"
 #[repr(C)]
-#[derive(Clone, Copy, Drop)]
+#[derive(Clone, Copy, PartialEq, Eq, Drop)]
 pub struct Key {
     pub saddr: u32,
     pub daddr: u32,
@@ -33,34 +33,28 @@ pub struct Key {
     pub protocol: u8,
 }
 
-#[derive(Clone, Copy, Drop)]
-pub enum Total {
-    Known(usize),
-    Unknown,
-}
-
 // What is kept of an assembly beside its payload buffer and its map.
 #[derive(Clone, Copy, Drop)]
 pub struct Rec {
     pub key: Key,
-    pub total: Total,
+    pub total: Option<usize>,
     pub floor: usize,
     pub spoilt: bool,
 }
 
-// What taking a piece answers: with the new record, or a refusal's number.
-#[derive(Clone, Copy, Drop)]
-pub enum Taken {
-    Waiting(Rec),
-    Complete(Rec),
-    Spoilt(Rec),
-    Refused(u8),
+// "Each accepted call answers waiting, complete or spoilt"
+#[derive(Clone, Copy, PartialEq, Eq, Drop)]
+pub enum Outcome {
+    Waiting,
+    Complete,
+    Spoilt,
 }
 
+// What taking a piece answers: how the assembly stands, with its new record.
 #[derive(Clone, Copy, Drop)]
-pub enum Opened {
-    Open(Rec),
-    Refused(u8),
+pub struct Taken {
+    pub answer: Outcome,
+    pub rec: Rec,
 }
 
 // Whether buffers of these sizes are an assembly's.
@@ -71,13 +65,13 @@ fn is_sized(payload: usize, map: usize) -> bool
 }
 
 // Opens an assembly for a key: all but the key becomes zero.
-pub fn open(key: Key, payload: &mut [u8], map: &mut [u8]) -> Opened
+pub fn open(key: Key, payload: &mut [u8], map: &mut [u8]) -> Result<Rec, Refusal>
     ensures { Opens capacity map_bytes key payload.old map.old result payload.new map.new }
 {
-    if is_sized(payload.len(), map.len()) {
-        return Opened::Open(step::wipe(payload, map, key, false));
+    if !is_sized(payload.len(), map.len()) {
+        return Err(Refusal::BadAssembly);
     }
-    Opened::Refused(refusal::BAD_ASSEMBLY)
+    Ok(step::wipe(payload, map, key, false))
 }
 
 // Whether the record and the buffers are an assembly's.
@@ -93,30 +87,26 @@ fn is_usable(rec: Rec, payload: &[u8], map: &[u8]) -> bool
 }
 
 // Takes the piece that a packet carries, or refuses it and leaves the buffers as they were. The data is looked at where it lies.
-pub fn take(rec: Rec, packet: &[u8], payload: &mut [u8], map: &mut [u8]) -> Taken
+pub fn take(rec: Rec, packet: &[u8], payload: &mut [u8], map: &mut [u8]) -> Result<Taken, Refusal>
     ensures { Takes capacity map_bytes (view rec payload.old map.old) packet.now result
         payload.new map.new }
 {
     if !is_usable(rec, payload, map) {
-        return Taken::Refused(refusal::BAD_ASSEMBLY);
+        return Err(Refusal::BadAssembly);
     }
     let key = rec.key;
-    match carried::read(key, packet) {
-        Seen::Refused(number) => Taken::Refused(number),
-        Seen::Packet(h) => {
-            let start = h.start;
-            let end = h.end;
-            any::put(rec, h, &packet[start..end], payload, map)
-        }
-    }
+    let h = carried::read(key, packet)?;
+    let start = h.start;
+    let end = h.end;
+    any::put(rec, h, &packet[start..end], payload, map)
 }
 
 // How the assembly stands: a complete datagram is the first so many bytes of the payload buffer.
-pub fn progress(rec: Rec, payload: &[u8], map: &[u8]) -> Progress
+pub fn progress(rec: Rec, payload: &[u8], map: &[u8]) -> Result<Progress, Refusal>
     ensures { progress_says result ≡ progress_answer capacity map_bytes (view rec payload.now map.now) }
 {
-    if !is_usable(rec, payload, map) {
-        return Progress::Refused(refusal::BAD_ASSEMBLY);
+    if is_usable(rec, payload, map) {
+        return any::progress(rec, payload, map);
     }
-    any::progress(rec, payload, map)
+    Err(Refusal::BadAssembly)
 }

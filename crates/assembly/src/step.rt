@@ -1,19 +1,17 @@
 // Taking one piece: its offset in blocks, its MF bit and its data.
-ghost use Rattle.std.specs.Prelude.{◌≡◌, true, List, ℕ, ◌+◌, ◌*◌, ◌/◌, ◌≤◌, length, take};
-ghost use Rattle.assembly.specs.Assembly.{cleared, clashes, accept, step, held_to, outcome, total_fits, bytes_below};
-ghost use Rattle.pkt.specs.Answers.{gives};
-ghost use Rattle.assembly.specs.View.{total_of, view, piece};
-ghost use Rattle.assembly.specs.Answers.{taken_says, reply, Moves, standing_of, progress_says};
+ghost use Rattle.std.specs.Prelude.{◌≡◌, true, List, ℕ, ◌+◌, ◌*◌, ◌/◌, ◌≤◌, length};
+ghost use Rattle.assembly.specs.Assembly.{cleared, clashes, accept, step, held_to, outcome, total_fits};
+ghost use Rattle.assembly.specs.View.{view, piece};
+ghost use Rattle.assembly.specs.Answers.{reply, Moves, standing_of, stands};
 
-use crate::{Key, Rec, Taken, Total, buffer, compare, map, record};
+use crate::{Key, Outcome, Rec, Taken, buffer, compare, map, record};
 
-// How an assembly stands: a complete datagram with its length, or a refusal's number.
-#[derive(Clone, Copy, Drop)]
+// How an assembly stands: a complete datagram with its length.
+#[derive(Clone, Copy, PartialEq, Eq, Drop)]
 pub enum Progress {
     Waiting,
     Complete(usize),
     Spoilt,
-    Refused(u8),
 }
 
 // How many blocks n bytes from a block's first on lie in.
@@ -31,7 +29,7 @@ pub(crate) fn wipe(payload: &mut [u8], map: &mut [u8], key: Key, spoilt: bool) -
     buffer::clear(map);
     Rec {
         key,
-        total: Total::Unknown,
+        total: None,
         floor: 0,
         spoilt,
     }
@@ -101,41 +99,33 @@ pub(crate) fn put(
 }
 
 // Whether every byte below the total is held.
-fn held_to(map: &[u8], total: Total) -> bool
-    requires { total_fits (64 * length map.now) (total_of total) ≡ true }
-    ensures { result ≡ held_to map.now (total_of total) }
+fn held_to(map: &[u8], total: Option<usize>) -> bool
+    requires { total_fits (64 * length map.now) total ≡ true }
+    ensures { result ≡ held_to map.now total }
 {
     match total {
-        Total::Known(t) => map::all_marked(map, blocks(t)),
-        Total::Unknown => false,
-    }
-}
-
-// The total, or 0 where it is not known.
-fn known(total: Total) -> usize
-    ensures by_index { (d : List ℕ) → bytes_below (total_of total) d ≡ take result d }
-    ensures by_index_2 { (n : ℕ) → total_fits n (total_of total) ≡ true → result ≤ n }
-{
-    match total {
-        Total::Known(t) => t,
-        Total::Unknown => 0,
+        Some(t) => map::all_marked(map, blocks(t)),
+        None => false,
     }
 }
 
 // The answer that a record has, with itself.
 fn answered(map: &[u8], rec: Rec) -> Taken
-    requires { total_fits (64 * length map.now) (total_of rec.total) ≡ true }
-    ensures { (d : List ℕ) → taken_says result ≡ gives (reply (outcome (view rec d map.now)) rec) }
+    requires { total_fits (64 * length map.now) rec.total ≡ true }
+    ensures { (d : List ℕ) → result ≡ reply (outcome (view rec d map.now)) rec }
 {
     let spoilt = rec.spoilt;
-    if spoilt {
-        return Taken::Spoilt(rec);
-    }
     let total = rec.total;
-    if held_to(map, total) {
-        return Taken::Complete(rec);
+    if spoilt {
+        let answer = Outcome::Spoilt;
+        return Taken { answer, rec };
     }
-    Taken::Waiting(rec)
+    if held_to(map, total) {
+        let answer = Outcome::Complete;
+        return Taken { answer, rec };
+    }
+    let answer = Outcome::Waiting;
+    Taken { answer, rec }
 }
 
 // Takes a piece that fits, and answers.
@@ -149,8 +139,8 @@ pub(crate) fn take(
 ) -> Taken
     requires body_in_bounds { 8 * off + length body.now ≤ length payload.old }
     requires payload_len_bound { length payload.old ≤ 64 * length map.old }
-    requires total_value { total_fits (length payload.old) (total_of rec.total) ≡ true }
-    ensures { Moves (view rec payload.old map.old) (piece off mf body.now) result payload.new map.new }
+    requires total_value { total_fits (length payload.old) rec.total ≡ true }
+    ensures { Moves (view rec payload.old map.old) (piece off mf body.now) (Ok result) payload.new map.new }
 {
     let next = put(payload, map, rec, off, mf, body);
     answered(map, next)
@@ -158,17 +148,17 @@ pub(crate) fn take(
 
 // How a record stands whose total fits its map and its payload buffer d.
 pub(crate) fn standing(map: &[u8], rec: Rec) -> Progress
-    requires { total_fits (64 * length map.now) (total_of rec.total) ≡ true }
-    ensures { (d : List ℕ) → total_fits (length d) (total_of rec.total) ≡ true
-        → progress_says result ≡ gives (standing_of (view rec d map.now)) }
+    requires { total_fits (64 * length map.now) rec.total ≡ true }
+    ensures { (d : List ℕ) → total_fits (length d) rec.total ≡ true
+        → stands result ≡ standing_of (view rec d map.now) }
 {
     let spoilt = rec.spoilt;
+    let total = rec.total;
     if spoilt {
         return Progress::Spoilt;
     }
-    let total = rec.total;
     if held_to(map, total) {
-        return Progress::Complete(known(total));
+        return Progress::Complete(total.unwrap_or(0));
     }
     Progress::Waiting
 }

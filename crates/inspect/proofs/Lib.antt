@@ -5,4 +5,3 @@ pub mod Checking
 pub mod Decoding
 pub mod Standing
 pub mod Sent
-pub mod Only

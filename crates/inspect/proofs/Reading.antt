@@ -61,8 +61,9 @@ was_seen (gives g) h q =
     let same : g ≡ h = cc w.1 in
     (w.1, ap (λ (x : IpRead). x.evil) (sym same) ∙ w.0)
 
-pub clear_seen : {a b : Answer IpRead} (l : List ℕ) → a ≡ frame_answer l → b ≡ and_then a unreserved → and_then (frame_answer l) unreserved ≡ b
-clear_seen l x y = sym (y ∙ ap (λ (c : Answer IpRead). and_then c unreserved) x)
+-- A header g that is seen, and is h with its reserved bit clear, is framed.
+pub clear_framed : (l : List ℕ) (g h : IpRead) → gives g ≡ frame_answer l → gives h ≡ unreserved g → Framed l h
+clear_framed l g h e q = framed l h (sym e ∙ (was_seen (gives g) h (sym q)).0)
 
 -- A header that was read is framed, and verifies.
 pub was_read : (l : List ℕ) (h : IpRead) → read_answer l ≡ gives h → (frame_answer l ≡ gives h) × (verifies (take h.start l) ≡ true)

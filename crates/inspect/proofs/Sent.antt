@@ -20,7 +20,8 @@ use Rattle.pkt.specs.declared.ipv4.icmp_echo_hdr.{icmp_echo_hdr}
 use Rattle.pkt.proofs.Checksum.{checksum_most, nonzero_range}
 use Rattle.pkt.proofs.Fields.{field_at_lem}
 use Rattle.pkt.proofs.Headers.{tcp_length, udp_length, echo_length, tcp_verifies, udp_verifies, echo_verifies}
-use Rattle.inspect.specs.Answers.{Verdict, good, no_checksum}
+use Rattle.inspect.specs.declared.check.Verdict.{Verdict}
+use Rattle.inspect.specs.declared.check.Verdict.TheVariants.{Good, NoChecksum}
 use Rattle.inspect.specs.Header.{field_at}
 use Rattle.inspect.proofs.Standing.{sums_stand, tcp_offset}
 use Rattle.inspect.specs.Check.{is_piece, is_other, tcp_cut, udp_cut, is_cut, kind_of, whole_answer, verifies_behind_pseudo, unless_bad, verdict_of, part_answer}
@@ -56,13 +57,13 @@ module _ (h : IpRead) (d : List ℕ) where
 
   -- UDP: 14 where it is cut, good without checksum where that is 0, else by its sum behind the pseudo header.
   pub udp_part : is_piece h ≡ false → h.protocol ≡ 17
-      → part_answer h d ≡ cond (udp_cut d) (refused 14) (cond (eqb (field_at d udp_sum_at 2) 0) (gives no_checksum) (unless_bad (verifies_behind_pseudo h 17 d)))
+      → part_answer h d ≡ cond (udp_cut d) (refused 14) (cond (eqb (field_at d udp_sum_at 2) 0) (gives NoChecksum) (unless_bad (verifies_behind_pseudo h 17 d)))
   unfolding verdict_of
   udp_part piece seventeen = by_protocol piece 17 seventeen ∙ go (udp_cut d) (eqb (field_at d udp_sum_at 2) 0)
     where
       go : (c z : Bool)
           → and_then (cond c (refused 14) (gives (cond z Bare Udp))) (λ k. verdict_of k h d)
-          ≡ cond c (refused 14) (cond z (gives no_checksum) (unless_bad (verifies_behind_pseudo h 17 d)))
+          ≡ cond c (refused 14) (cond z (gives NoChecksum) (unless_bad (verifies_behind_pseudo h 17 d)))
       go true z = refl
       go false true = refl
       go false false = refl
@@ -105,7 +106,7 @@ udp_checksum_some s d u p z = omega (arith, (nonzero_range (checksum (pseudo s d
 
 module _ (h : IpRead) (p : List ℕ) (bp : Bytes p) (piece : is_piece h ≡ false) where
   -- a TCP segment with its checksum
-  pub tcp_good : (t : tcp_hdr) → h.protocol ≡ 6 → part_answer h (tcp_header t (tcp_checksum h.saddr h.daddr t p) ++ p) ≡ gives good
+  pub tcp_good : (t : tcp_hdr) → h.protocol ≡ 6 → part_answer h (tcp_header t (tcp_checksum h.saddr h.daddr t p) ++ p) ≡ gives Good
   tcp_good t six =
       let c : ℕ = tcp_checksum h.saddr h.daddr t p in
       let d : List ℕ = tcp_header t c ++ p in
@@ -117,7 +118,7 @@ module _ (h : IpRead) (p : List ℕ) (bp : Bytes p) (piece : is_piece h ≡ fals
 
   -- a UDP datagram with its checksum
   pub udp_good : (u : udp_hdr) → h.protocol ≡ 17 → u.len ≡ 8 + length p → u.len < 65536
-      → part_answer h (udp_header u (udp_checksum h.saddr h.daddr u p) ++ p) ≡ gives good
+      → part_answer h (udp_header u (udp_checksum h.saddr h.daddr u p) ++ p) ≡ gives Good
   udp_good u seventeen len few =
       let c : ℕ = udp_checksum h.saddr h.daddr u p in
       let d : List ℕ = udp_header u c ++ p in
@@ -128,7 +129,7 @@ module _ (h : IpRead) (p : List ℕ) (bp : Bytes p) (piece : is_piece h ≡ fals
       udp_part h d piece seventeen ∙ simp (udp_whole u c p len few, some, eq-eqb _ 65535 sums)
 
   -- an echo
-  pub echo_good : (i : icmp_hdr) (e : icmp_echo_hdr) → h.protocol ≡ 1 → part_answer h (echo_header i e (echo_checksum i e p) ++ p) ≡ gives good
+  pub echo_good : (i : icmp_hdr) (e : icmp_echo_hdr) → h.protocol ≡ 1 → part_answer h (echo_header i e (echo_checksum i e p) ++ p) ≡ gives Good
   echo_good i e one =
       let c : ℕ = echo_checksum i e p in
       let d : List ℕ = echo_header i e c ++ p in

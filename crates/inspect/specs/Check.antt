@@ -2,11 +2,14 @@
 use Rattle.std.specs.Prelude.{ℕ, Bool, not, ◌&&◌, ◌||◌, cond, List, ◌++◌, length, ltb, eqb}
 use Rattle.pkt.specs.Answers.{Answer, refused, gives, mapped, and_then}
 use Rattle.pkt.specs.Rfc768.{pseudo, udp_sum_at}
-use Rattle.inspect.specs.Answers.{Whole, whole, Verdict, good, no_checksum}
+use Rattle.inspect.specs.Answers.{whole}
 use Rattle.inspect.specs.Header.{field_at, frame_answer, unreserved, read_answer, data_of}
 use Rattle.inspect.specs.declared.header.IpRead.{IpRead}
 use Rattle.inspect.specs.declared.check.Kind.{Kind}
 use Rattle.inspect.specs.declared.check.Kind.TheVariants.{Tcp, Udp, Bare, Icmp}
+use Rattle.inspect.specs.declared.check.Whole.{Whole}
+use Rattle.inspect.specs.declared.check.Verdict.{Verdict}
+use Rattle.inspect.specs.declared.check.Verdict.TheVariants.{Good, NoChecksum}
 use Rattle.pkt.specs.Rfc1071.{verifies}
 
 -- 13: "offset not 0, or MF set"
@@ -45,15 +48,15 @@ whole_answer h d =
 abbrev pub verifies_behind_pseudo : IpRead → ℕ → List ℕ → Bool
 verifies_behind_pseudo h p d = verifies (pseudo h.saddr h.daddr p (length d) ++ d)
 
--- 15: "transport checksum does not verify"
+-- 15: "transport checksum does not verify"; "It answers good, good without checksum (UDP field 0), or a refusal."
 abbrev pub unless_bad : Bool → Answer Verdict
-unless_bad t = cond t (gives good) (refused 15)
+unless_bad t = cond t (gives Good) (refused 15)
 
 -- Whether the sums of a whole packet verify. A UDP field of 0 is not summed.
 unfoldable pub verdict_of : Kind → IpRead → List ℕ → Answer Verdict
 verdict_of Tcp h d = unless_bad (verifies_behind_pseudo h 6 d)
 verdict_of Udp h d = unless_bad (verifies_behind_pseudo h 17 d)
-verdict_of Bare h d = gives no_checksum
+verdict_of Bare h d = gives NoChecksum
 verdict_of Icmp h d = unless_bad (verifies d)
 
 -- a header and its data part: 13, 12, 14, 15

@@ -1,11 +1,10 @@
 -- Which bytes are an IPv4 packet, and what its header says: RFC 791, 3.1, document 01's numbers 4 to 7, document 02's 18, and its T-11: "The header
 -- reader shall accept header lengths of 5 to 15 words, sum the whole header, pass over the options and answer where the data starts."
-use Rattle.std.specs.Prelude.{ℕ, ◌-◌, ◌*◌, ◌/◌, ◌%◌, Bool, false, not, ◌||◌, cond, List, length, take, drop, ltb, eqb}
+use Rattle.std.specs.Prelude.{ℕ, ◌-◌, ◌*◌, ◌/◌, ◌%◌, Bool, false, not, ◌||◌, cond, List, length, take, drop, ltb, eqb, Result, Ok, Err}
 use Rattle.pkt.specs.Answers.{Answer, refused, gives, and_then}
 use Rattle.pkt.specs.Rfc1071.{verifies}
 use Rattle.pkt.specs.Fields.{value}
-use Rattle.pkt.specs.declared.ipv4.Sum.{Sum}
-use Rattle.pkt.specs.declared.ipv4.Sum.TheVariants as csum
+use Rattle.pkt.specs.declared.refusal.Refusal.{Refusal}
 use Rattle.inspect.specs.declared.header.IpRead.{IpRead}
 
 -- the number that k bytes of l from a place on stand for, big-endian
@@ -60,9 +59,9 @@ frame_answer l =
     (cond (ltb (length l) (header_of l).end) (refused 4) (gives (header_of l)))))
 
 -- a checksum of bytes with their own checksum among them: 0 exactly if they verify
-abbrev pub is_zero : Sum → Bool
-is_zero (csum.Is c) = eqb c 0
-is_zero (csum.Refused n) = false
+abbrev pub is_zero : Result ℕ Refusal → Bool
+is_zero (Ok c) = eqb c 0
+is_zero (Err e) = false
 
 -- 7, "IPv4 header checksum does not verify", of a packet l with the header h
 abbrev pub summed : List ℕ → IpRead → Answer IpRead

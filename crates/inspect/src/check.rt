@@ -1,14 +1,14 @@
 // The check of a finished packet, in two steps: what kind of packet it is and whether it is whole,
 // and whether its sums verify.
 ghost use Rattle.std.specs.Prelude.{◌≡◌, ◌≤◌, length};
-ghost use Rattle.pkt.specs.Answers.{mapped, most_ip};
-ghost use Rattle.inspect.specs.Answers.{found_says, whole, examined_says, checked_says};
+ghost use Rattle.pkt.specs.Answers.{says, most_ip};
 ghost use Rattle.inspect.specs.Check.{is_piece, is_other, tcp_cut, udp_cut, is_cut, kind_of, whole_answer, verifies_behind_pseudo, unless_bad, verdict_of, part_answer, check_answer, examine_answer};
 
 use crate::header;
-use crate::header::{IpRead, Seen};
+use crate::header::IpRead;
+use pkt::ipv4;
 use pkt::ipv4::proto;
-use pkt::{ipv4, refusal};
+use pkt::refusal::Refusal;
 
 // The kinds of whole packets. Bare is UDP with a checksum field of 0.
 #[derive(Clone, Copy, Drop)]
@@ -19,26 +19,18 @@ pub enum Kind {
     Icmp,
 }
 
-// A whole packet's header and kind, or the number of the refusal.
+// A whole packet's header and kind.
 #[derive(Clone, Copy, Drop)]
-pub enum Examined {
-    Whole(IpRead, Kind),
-    Refused(u8),
+pub struct Whole {
+    pub header: IpRead,
+    pub kind: Kind,
 }
 
-// The kind of a whole packet, or the number of the refusal.
-#[derive(Clone, Copy, Drop)]
-enum Found {
-    Is(Kind),
-    Refused(u8),
-}
-
-// What the check says of a packet, or the number of the refusal.
-#[derive(Clone, Copy, Drop)]
-pub enum Checked {
+// What the check says of a packet that it does not refuse: NoChecksum of UDP with a checksum field of 0.
+#[derive(Clone, Copy, PartialEq, Eq, Drop)]
+pub enum Verdict {
     Good,
     NoChecksum,
-    Refused(u8),
 }
 
 fn is_piece(h: IpRead) -> bool
@@ -108,21 +100,21 @@ fn kind_of(protocol: u8, part: &[u8]) -> Kind
 
 // The first step: what kind of packet a header and its data part are, and whether it is whole.
 #[tactic(auto, unfolding(crate::specs::Check::whole_answer))]
-fn whole(h: IpRead, part: &[u8]) -> Found
-    ensures { found_says result ≡ whole_answer h part.now }
+fn whole_kind(h: IpRead, part: &[u8]) -> Result<Kind, Refusal>
+    ensures { says result ≡ whole_answer h part.now }
 {
     let piece = is_piece(h);
     let other = is_other(h.protocol);
     if piece {
-        return Found::Refused(refusal::PIECE);
+        return Err(Refusal::Piece);
     }
     if other {
-        return Found::Refused(refusal::OTHER_PROTOCOL);
+        return Err(Refusal::OtherProtocol);
     }
     if is_cut(h.protocol, part) {
-        return Found::Refused(refusal::CUT);
+        return Err(Refusal::Cut);
     }
-    Found::Is(kind_of(h.protocol, part))
+    Ok(kind_of(h.protocol, part))
 }
 
 // Whether a transport part verifies behind the pseudo header with the addresses of its header.
@@ -133,76 +125,60 @@ fn verify_part(h: IpRead, protocol: u8, part: &[u8]) -> bool
     header::is_zero(ipv4::transport_csum(h.saddr, h.daddr, protocol, part))
 }
 
-fn unless_bad(good: bool) -> Checked
-    ensures { checked_says result ≡ unless_bad good }
+fn unless_bad(good: bool) -> Result<Verdict, Refusal>
+    ensures { says result ≡ unless_bad good }
 {
     if good {
-        Checked::Good
+        Ok(Verdict::Good)
     } else {
-        Checked::Refused(refusal::BAD_SUM)
+        Err(Refusal::BadSum)
     }
 }
 
 // The second step: whether the sums of a whole packet of this kind verify. A UDP field of 0 is not
 // summed.
-fn sums(kind: Kind, h: IpRead, part: &[u8]) -> Checked
+fn sums(kind: Kind, h: IpRead, part: &[u8]) -> Result<Verdict, Refusal>
     requires { length part.now ≤ most_ip }
-    ensures { checked_says result ≡ verdict_of kind h part.now }
+    ensures { says result ≡ verdict_of kind h part.now }
 {
     match kind {
         Kind::Tcp => unless_bad(verify_part(h, proto::TCP, part)),
         Kind::Udp => unless_bad(verify_part(h, proto::UDP, part)),
-        Kind::Bare => Checked::NoChecksum,
+        Kind::Bare => Ok(Verdict::NoChecksum),
         Kind::Icmp => unless_bad(header::verify(part)),
     }
 }
 
 // Both steps, one after the other.
-fn both(h: IpRead, part: &[u8]) -> Checked
+fn both(h: IpRead, part: &[u8]) -> Result<Verdict, Refusal>
     requires { length part.now ≤ most_ip }
-    ensures { checked_says result ≡ part_answer h part.now }
+    ensures { says result ≡ part_answer h part.now }
 {
-    match whole(h, part) {
-        Found::Refused(number) => Checked::Refused(number),
-        Found::Is(kind) => sums(kind, h, part),
-    }
+    let kind = whole_kind(h, part)?;
+    sums(kind, h, part)
 }
 
 // Whether a packet is whole and its sums verify. Bytes after its total length do not count.
-pub fn check(packet: &[u8]) -> Checked
-    ensures { checked_says result ≡ check_answer packet.now }
+#[tactic(auto, unfolding(crate::specs::Check::check_answer))]
+pub fn check(packet: &[u8]) -> Result<Verdict, Refusal>
+    ensures { says result ≡ check_answer packet.now }
 {
-    match header::read(packet) {
-        Seen::Refused(number) => Checked::Refused(number),
-        Seen::Packet(h) => {
-            let start = h.start;
-            let end = h.end;
-            both(h, &packet[start..end])
-        }
-    }
-}
-
-// A kind that was found, with the header.
-fn with_header(h: IpRead, found: Found) -> Examined
-    ensures { examined_says result ≡ mapped (whole h) (found_says found) }
-{
-    match found {
-        Found::Is(kind) => Examined::Whole(h, kind),
-        Found::Refused(number) => Examined::Refused(number),
-    }
+    let h = header::read(packet)?;
+    let start = h.start;
+    let end = h.end;
+    both(h, &packet[start..end])
 }
 
 // The header and the kind of a packet that the check would call good, with or without checksum, if it asked for no sum: neither 7 nor 15
 // is given. Bytes after its total length do not count.
-pub fn examine(packet: &[u8]) -> Examined
-    ensures { examined_says result ≡ examine_answer packet.now }
+#[tactic(auto, unfolding(crate::specs::Check::examine_answer))]
+pub fn examine(packet: &[u8]) -> Result<Whole, Refusal>
+    ensures { says result ≡ examine_answer packet.now }
 {
-    match header::unreserved(header::frame(packet)) {
-        Seen::Refused(number) => Examined::Refused(number),
-        Seen::Packet(h) => {
-            let start = h.start;
-            let end = h.end;
-            with_header(h, whole(h, &packet[start..end]))
-        }
-    }
+    let seen = header::frame(packet)?;
+    let header = header::unreserved(seen)?;
+    let start = header.start;
+    let end = header.end;
+    let kind = whole_kind(header, &packet[start..end])?;
+    Ok(Whole { header, kind })
 }

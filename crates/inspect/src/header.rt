@@ -1,12 +1,12 @@
 // The header reader: which bytes are an IPv4 packet, what its header says, and where its data is.
 ghost use Rattle.std.specs.Prelude.{◌≡◌, ◌+◌, ◌≤◌, length};
-ghost use Rattle.inspect.specs.Answers.{read_says};
-ghost use Rattle.pkt.specs.Answers.{and_then};
+ghost use Rattle.pkt.specs.Answers.{says, and_then};
 ghost use Rattle.inspect.specs.Header.{field_at, header_of, not_ipv4, frame_answer, is_zero, summed, unreserved, read_answer};
 ghost use Rattle.pkt.specs.Rfc1071.{verifies};
 
-use pkt::ipv4::{Sum, flags};
-use pkt::{ipv4, refusal};
+use pkt::ipv4;
+use pkt::ipv4::flags;
+use pkt::refusal::Refusal;
 
 // What a packet's header says. Its data is the bytes from start, behind the options, up to, not including, end.
 #[derive(Clone, Copy, Drop)]
@@ -24,13 +24,6 @@ pub struct IpRead {
     pub daddr: u32,
     pub start: usize,
     pub end: usize,
-}
-
-// A packet's header, or the number of the refusal.
-#[derive(Clone, Copy, Drop)]
-pub enum Seen {
-    Packet(IpRead),
-    Refused(u8),
 }
 
 // The byte at a place.
@@ -91,34 +84,31 @@ fn not_ipv4(packet: &[u8]) -> bool
 }
 
 // The header of a packet that is all there, whatever its checksum.
-pub fn frame(packet: &[u8]) -> Seen
-    ensures { read_says result ≡ frame_answer packet.now }
+pub fn frame(packet: &[u8]) -> Result<IpRead, Refusal>
+    ensures { says result ≡ frame_answer packet.now }
 {
     let n = packet.len();
     if n < 20 {
-        return Seen::Refused(refusal::SHORT);
+        return Err(Refusal::Short);
     }
     if not_ipv4(packet) {
-        return Seen::Refused(refusal::NOT_IPV4);
+        return Err(Refusal::NotIpv4);
     }
     let h = fields(packet);
     if h.end < h.start {
-        return Seen::Refused(refusal::BAD_TOTAL);
+        return Err(Refusal::BadTotal);
     }
     if n < h.end {
-        return Seen::Refused(refusal::SHORT);
+        return Err(Refusal::Short);
     }
-    Seen::Packet(h)
+    Ok(h)
 }
 
 // Whether a checksum says that what it was taken of verifies.
-pub(crate) fn is_zero(sum: Sum) -> bool
+pub(crate) fn is_zero(sum: Result<u16, Refusal>) -> bool
     ensures { result ≡ is_zero sum }
 {
-    match sum {
-        Sum::Is(csum) => csum == 0,
-        Sum::Refused(_) => false,
-    }
+    sum == Ok(0)
 }
 
 // Whether bytes with their checksum among them verify.
@@ -129,43 +119,34 @@ pub(crate) fn verify(s: &[u8]) -> bool
     is_zero(ipv4::ip_csum(s))
 }
 
-// A header as it was seen, unless its reserved bit is set.
-pub(crate) fn unreserved(seen: Seen) -> Seen
-    ensures { read_says result ≡ and_then (read_says seen) unreserved }
+// A header, unless its reserved bit is set.
+pub(crate) fn unreserved(h: IpRead) -> Result<IpRead, Refusal>
+    ensures { says result ≡ unreserved h }
 {
-    match seen {
-        Seen::Refused(number) => Seen::Refused(number),
-        Seen::Packet(h) => {
-            if h.evil {
-                Seen::Refused(refusal::RESERVED)
-            } else {
-                Seen::Packet(h)
-            }
-        }
+    if h.evil {
+        return Err(Refusal::Reserved);
     }
+    Ok(h)
 }
 
 // The header of a packet that is all there and whose header verifies.
-fn verified(packet: &[u8]) -> Seen
-    ensures { read_says result ≡ and_then (frame_answer packet.now) (summed packet.now) }
+fn verified(packet: &[u8]) -> Result<IpRead, Refusal>
+    ensures { says result ≡ and_then (frame_answer packet.now) (summed packet.now) }
 {
-    match frame(packet) {
-        Seen::Refused(number) => Seen::Refused(number),
-        Seen::Packet(h) => {
-            let start = h.start;
-            if verify(&packet[0..start]) {
-                Seen::Packet(h)
-            } else {
-                Seen::Refused(refusal::BAD_HEADER)
-            }
-        }
+    let h = frame(packet)?;
+    let start = h.start;
+    if verify(&packet[0..start]) {
+        return Ok(h);
     }
+    Err(Refusal::BadHeader)
 }
 
 // The header of a packet that is all there, whose header verifies and has the reserved bit clear. Bytes after its total
 // length do not count.
-pub fn read(packet: &[u8]) -> Seen
-    ensures { read_says result ≡ read_answer packet.now }
+#[tactic(auto, unfolding(crate::specs::Header::read_answer))]
+pub fn read(packet: &[u8]) -> Result<IpRead, Refusal>
+    ensures { says result ≡ read_answer packet.now }
 {
-    unreserved(verified(packet))
+    let h = verified(packet)?;
+    unreserved(h)
 }

@@ -1,18 +1,11 @@
 // The TCP header, read back.
 ghost use Rattle.std.specs.Prelude.{◌≡◌, ◌≤◌, length};
-ghost use Rattle.inspect.specs.Answers.{tcp_says};
+ghost use Rattle.pkt.specs.Answers.{says};
 ghost use Rattle.inspect.specs.Tcp.{tcp_of, tcp_read_answer};
 
 use crate::{check, header};
 use pkt::ipv4::tcp_hdr;
-use pkt::refusal;
-
-// What a TCP header says, or the number of the refusal.
-#[derive(Clone, Copy, Drop)]
-pub enum TcpSeen {
-    Header(tcp_hdr),
-    Refused(u8),
-}
+use pkt::refusal::Refusal;
 
 // What the first 20 bytes say.
 fn fields(part: &[u8]) -> tcp_hdr
@@ -29,11 +22,11 @@ fn fields(part: &[u8]) -> tcp_hdr
 }
 
 // The TCP header of a transport part.
-pub fn read(part: &[u8]) -> TcpSeen
-    ensures { tcp_says result ≡ tcp_read_answer part.now }
+pub fn read(part: &[u8]) -> Result<tcp_hdr, Refusal>
+    ensures { says result ≡ tcp_read_answer part.now }
 {
     if check::tcp_cut(part) {
-        return TcpSeen::Refused(refusal::CUT);
+        return Err(Refusal::Cut);
     }
-    TcpSeen::Header(fields(part))
+    Ok(fields(part))
 }

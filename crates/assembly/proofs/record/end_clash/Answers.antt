@@ -10,11 +10,11 @@ returns-then-mf c = cc
 
 pub returns-then-t-end : goal.returns-then-t-end
 unfolding end_clash
-returns-then-t-end c = rw (c.in-Known.is, c.if-mf.false, ne_eqb _ _ c.if-t-end.true) refl
+returns-then-t-end c = rw (c.in-Some.is, c.if-mf.false, ne_eqb _ _ c.if-t-end.true) refl
 
 pub returns-else-t-end : goal.returns-else-t-end
 unfolding end_clash
-returns-else-t-end c = rw (c.in-Known.is, c.if-mf.false, eq-eqb _ _ c.if-t-end.false) refl
+returns-else-t-end c = rw (c.in-Some.is, c.if-mf.false, eq-eqb _ _ c.if-t-end.false) refl
 
 pub returns-then-mf-2 : goal.returns-then-mf-2
 unfolding end_clash

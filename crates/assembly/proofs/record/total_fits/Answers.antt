@@ -2,10 +2,10 @@
 use Rattle.assembly.specs.Assembly.{total_fits}
 use Rattle.assembly.proofs.record.total_fits.Goals as goal
 
-pub returns-in-Known : goal.returns-in-Known
+pub returns-in-Some : goal.returns-in-Some
 unfolding total_fits
-returns-in-Known c = cc
+returns-in-Some c = cc
 
-pub returns-in-Unknown : goal.returns-in-Unknown
+pub returns-in-None : goal.returns-in-None
 unfolding total_fits
-returns-in-Unknown c = cc
+returns-in-None c = cc

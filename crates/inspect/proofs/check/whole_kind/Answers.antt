@@ -2,7 +2,7 @@
 use mathlib.Core.Path.{sym, ◌∙◌}
 use Rattle.inspect.specs.Check.{whole_answer}
 use Rattle.inspect.proofs.Checking.{not_cut}
-use Rattle.inspect.proofs.check.whole.Goals as goal
+use Rattle.inspect.proofs.check.whole_kind.Goals as goal
 
 pub returns-then-is_cut : goal.returns-then-is_cut
 unfolding whole_answer

@@ -1,5 +1,0 @@
--- By cases of the sum.
-use Rattle.inspect.proofs.header.is_zero.Goals as goal
-
-pub returns-in-Is : goal.returns-in-Is
-returns-in-Is c = rw c.in-Is.is
