@@ -1,26 +1,10 @@
--- Laws of the answers: each contract leaves one, and what it tells of sizes.
-use mathlib.Core.Path.{◌≡◌, refl}
+-- Laws of the answers: what they tell of sizes.
+use mathlib.Core.Path.{◌≡◌}
 use Prim.Native.Nat.{ℕ, ◌+◌, ◌≤◌}
 use borrow.Author.Tests.{le-ltb}
-use Rattle.pkt.specs.Answers.{Answer, refused, gives, fitting}
+use Rattle.pkt.specs.Answers.{gives, fitting}
 use Rattle.pkt.proofs.Deciding.{bounded}
-use Rattle.pkt.proofs.Only.{told_once}
-use Rattle.pcap.specs.Answers.{captured_says, record_answer}
-use Rattle.pcap.specs.declared.Captured.{Captured}
-use Rattle.pcap.specs.declared.Captured.TheVariants.{Bytes, Refused}
-
-captured_of : Answer ℕ → Captured
-captured_of (gives n) = Bytes n
-captured_of (refused n) = Refused n
-
-captured_of_says : (r : Captured) → captured_of (captured_says r) ≡ r
-unfolding captured_of
-captured_of_says (Bytes n) = refl
-captured_of_says (Refused n) = refl
-
--- One answer.
-pub captured_only : (r s : Captured) (a : Answer ℕ) → captured_says r ≡ a → captured_says s ≡ a → r ≡ s
-captured_only r s a p q = told_once captured_says captured_of captured_of_says r s a p q
+use Rattle.pcap.specs.Answers.{record_answer}
 
 -- What is not refused has room, and its length is answered.
 pub fitting_fits : (size room k : ℕ) → fitting size room ≡ gives k → (size ≤ room) × (size ≡ k)

@@ -3,8 +3,9 @@ use mathlib.Core.Path.{◌≡◌, refl, ap, ◌∙◌}
 use Prim.Native.Nat.{ℕ, zero, suc, ◌+◌, ◌/◌, ◌^◌, ◌<◌}
 use native.Mathlib.Omega.{arith}
 use native.Mathlib.Nat.{pow-suc, pow-zero}
-use mathlib.Core.List.{List, ◌++◌}
-use lib.ListN.{length, length-append}
+use mathlib.Core.List.{List, [], ◌∷◌, ◌++◌}
+use lib.ListN.{length, get_or, length-append}
+use Rattle.std.specs.Int.{w32, to_le_bytes}
 use lib.Seq.{take_at, drop_at}
 use Rattle.pcap.specs.Pcap.{le, file_header, record_header, record_bytes}
 use Rattle.pcap.specs.Read.{le_value, number}
@@ -27,6 +28,20 @@ pub number_at : (k x : ℕ) (p q : List ℕ) (i : ℕ) → length p ≡ i → x 
 unfolding number
 number_at k x p q i h b =
     rw (drop_at p (le k x ++ q) i h, take_at (le k x) q k (le_length k x)) (le_value_lem k x b)
+
+-- The bytes of a number of 32 bits, as the method has them,
+pub le_four : (x : ℕ) → to_le_bytes w32 x ≡ le 4 x
+le_four x =
+    let second : x / 65536 ≡ x / 256 / 256 = omega arith in
+    let third : x / 16777216 ≡ x / 256 / 256 / 256 = omega arith in
+    rw (second, third)
+
+-- .. and those of a record's header, four by four.
+pub header_is : (s u n : ℕ) (a b d : List ℕ) → a ≡ to_le_bytes w32 s → b ≡ to_le_bytes w32 u → d ≡ to_le_bytes w32 n
+    → get_or a 0 0 ∷ get_or a 1 0 ∷ get_or a 2 0 ∷ get_or a 3 0 ∷ get_or b 0 0 ∷ get_or b 1 0 ∷ get_or b 2 0 ∷ get_or b 3 0
+    ∷ get_or d 0 0 ∷ get_or d 1 0 ∷ get_or d 2 0 ∷ get_or d 3 0 ∷ get_or d 0 0 ∷ get_or d 1 0 ∷ get_or d 2 0 ∷ get_or d 3 0 ∷ [] ≡ record_header s u n
+unfolding record_header
+header_is s u n a b d p q r = rw (p ∙ le_four s, q ∙ le_four u, r ∙ le_four n)
 
 pub record_header_length : (s u n : ℕ) → length (record_header s u n) ≡ 16
 unfolding record_header

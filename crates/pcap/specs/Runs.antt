@@ -1,11 +1,11 @@
 -- A capture by calls one after the other, and what is read of it: document 01, "Captures follow the published classic pcap layout".
-use Rattle.std.specs.Prelude.{ℕ, ◌+◌, ◌^◌, ◌≤◌, ◌<◌, ◌≡◌, List, [], ◌∷◌, ◌++◌, length, take, drop}
-use Rattle.pkt.specs.Answers.{gives, most_bytes}
+use Rattle.std.specs.Prelude.{ℕ, ◌+◌, ◌^◌, ◌≤◌, ◌<◌, ◌≡◌, List, [], ◌∷◌, ◌++◌, length, take, drop, Result}
+use Rattle.pkt.specs.Answers.{gives, most_bytes, says}
 use Rattle.pkt.specs.Written.{written}
+use Rattle.pkt.specs.declared.refusal.Refusal.{Refusal}
 use Rattle.pcap.specs.Pcap.{Stamped, capture_bytes}
-use Rattle.pcap.specs.Answers.{captured_says, most_micros, HeaderWritten, RecordWritten}
+use Rattle.pcap.specs.Answers.{most_micros, HeaderWritten, RecordWritten}
 use Rattle.pcap.specs.Read.{read_file, captured}
-use Rattle.pcap.specs.declared.Captured.{Captured}
 
 -- the packets that a call takes: at most 65,535 bytes, microseconds up to 999,999; seconds are of 32 bits
 pub record Takable (s : Stamped) : Type 0 where
@@ -22,14 +22,14 @@ AllTakable (s ∷ ss) = Takable s × AllTakable ss
 -- ended. The output before them is o; after them it is o', and the last ended at m.
 pub data RecordsWritten : List Stamped → ℕ → List ℕ → ℕ → List ℕ → Type 0 where
   none : (n : ℕ) (o : List ℕ) → RecordsWritten [] n o n o
-  next : (s : Stamped) (ss : List Stamped) (n : ℕ) (o : List ℕ) (r : Captured) (k : ℕ) (part : List ℕ) (m : ℕ) (o' : List ℕ) → s.sec < 2 ^ 32
-      → RecordWritten s.sec s.usec s.packet (drop n o) r part → captured_says r ≡ gives k
+  next : (s : Stamped) (ss : List Stamped) (n : ℕ) (o : List ℕ) (r : Result ℕ Refusal) (k : ℕ) (part : List ℕ) (m : ℕ) (o' : List ℕ) → s.sec < 2 ^ 32
+      → RecordWritten s.sec s.usec s.packet (drop n o) r part → says r ≡ gives k
       → RecordsWritten ss (n + k) (take n o ++ part) m o' → RecordsWritten (s ∷ ss) n o m o'
 
 -- An accepted call of write_header on the output o, and calls of write_record behind it.
 pub data CaptureWritten : List Stamped → List ℕ → ℕ → List ℕ → Type 0 where
-  behind_header : (ss : List Stamped) (o : List ℕ) (r : Captured) (k : ℕ) (o₁ : List ℕ) (m : ℕ) (o' : List ℕ) → HeaderWritten o r o₁
-      → captured_says r ≡ gives k
+  behind_header : (ss : List Stamped) (o : List ℕ) (r : Result ℕ Refusal) (k : ℕ) (o₁ : List ℕ) (m : ℕ) (o' : List ℕ) → HeaderWritten o r o₁
+      → says r ≡ gives k
       → RecordsWritten ss k o₁ m o' → CaptureWritten ss o m o'
 
 -- Such calls leave the capture of these packets, up to where the last ended, and the rest of the output as it was.

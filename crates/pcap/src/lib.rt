@@ -3,21 +3,16 @@
 
 ghost use Rattle.std.specs.Prelude.{◌≡◌, ◌+◌, ◌≤◌, length};
 ghost use Rattle.pcap.specs.Pcap.{file_header, record_header, record_bytes};
-ghost use Rattle.pkt.specs.Answers.{most_bytes};
+ghost use Rattle.pkt.specs.Answers.{most_bytes, says};
 ghost use Rattle.pkt.specs.Written.{written};
-ghost use Rattle.pcap.specs.Answers.{captured_says, record_answer, HeaderWritten, RecordWritten};
+ghost use Rattle.pcap.specs.Answers.{record_answer, HeaderWritten, RecordWritten};
 
 use pkt::copying::copy;
-use pkt::{limit, refusal};
-
-// How many bytes were written, or the refusal's number.
-#[derive(Clone, Copy, Drop)]
-pub enum Captured {
-    Bytes(usize),
-    Refused(u8),
-}
+use pkt::limit;
+use pkt::refusal::Refusal;
 
 // The file header: magic number, version 2.4, two reserved words, snap length, link type.
+#[tactic(auto, unfolding(crate::specs::Pcap::file_header))]
 pub fn header() -> [u8; 24]
     ensures { result ≡ file_header }
 {
@@ -27,55 +22,44 @@ pub fn header() -> [u8; 24]
 }
 
 // The file header at the start of out.
-pub fn write_header(out: &mut [u8]) -> Captured
+pub fn write_header(out: &mut [u8]) -> Result<usize, Refusal>
     ensures { HeaderWritten out.old result out.new }
 {
     if out.len() < 24 {
-        return Captured::Refused(refusal::NO_ROOM);
+        return Err(Refusal::NoRoom);
     }
     let h = header();
     copy(&h, out);
-    Captured::Bytes(24)
+    Ok(24)
 }
 
 // The header of a record, of a packet of n bytes that is captured whole.
+#[tactic(auto, using(crate::proofs::Pcap::header_is))]
 pub fn record_header(sec: u32, usec: u32, n: u32) -> [u8; 16]
     ensures { result ≡ record_header sec usec n }
 {
+    let [s0, s1, s2, s3] = sec.to_le_bytes();
+    let [u0, u1, u2, u3] = usec.to_le_bytes();
+    let [n0, n1, n2, n3] = n.to_le_bytes();
     [
-        (sec % 256) as u8,
-        (sec / 256 % 256) as u8,
-        (sec / 256 / 256 % 256) as u8,
-        (sec / 256 / 256 / 256 % 256) as u8,
-        (usec % 256) as u8,
-        (usec / 256 % 256) as u8,
-        (usec / 256 / 256 % 256) as u8,
-        (usec / 256 / 256 / 256 % 256) as u8,
-        (n % 256) as u8,
-        (n / 256 % 256) as u8,
-        (n / 256 / 256 % 256) as u8,
-        (n / 256 / 256 / 256 % 256) as u8,
-        (n % 256) as u8,
-        (n / 256 % 256) as u8,
-        (n / 256 / 256 % 256) as u8,
-        (n / 256 / 256 / 256 % 256) as u8,
+        s0, s1, s2, s3, u0, u1, u2, u3, n0, n1, n2, n3, n0, n1, n2, n3,
     ]
 }
 
 // What write_record answers for a packet of n bytes and an output of room bytes, with nothing written.
-pub fn record_answer(n: usize, usec: u32, room: usize) -> Captured
-    ensures { captured_says result ≡ record_answer n usec room }
+pub fn record_answer(n: usize, usec: u32, room: usize) -> Result<usize, Refusal>
+    ensures { says result ≡ record_answer n usec room }
 {
     if n > limit::BYTES {
-        return Captured::Refused(refusal::TOO_LONG);
+        return Err(Refusal::TooLong);
     }
     if usec > 999999 {
-        return Captured::Refused(refusal::BAD_TIME);
+        return Err(Refusal::BadTime);
     }
     if room < 16 + n {
-        return Captured::Refused(refusal::NO_ROOM);
+        return Err(Refusal::NoRoom);
     }
-    Captured::Bytes(16 + n)
+    Ok(16 + n)
 }
 
 // A record of packet at the start of out, which has room for it.
@@ -89,16 +73,10 @@ fn put_record(sec: u32, usec: u32, packet: &[u8], out: &mut [u8])
 }
 
 // A record of packet, taken at sec and usec, at the start of out.
-pub fn write_record(sec: u32, usec: u32, packet: &[u8], out: &mut [u8]) -> Captured
+pub fn write_record(sec: u32, usec: u32, packet: &[u8], out: &mut [u8]) -> Result<usize, Refusal>
     ensures { RecordWritten sec usec packet.now out.old result out.new }
 {
-    let n = packet.len();
-    let answer = record_answer(n, usec, out.len());
-    match answer {
-        Captured::Bytes(_) => {
-            put_record(sec, usec, packet, out);
-            answer
-        }
-        Captured::Refused(_) => answer,
-    }
+    let size = record_answer(packet.len(), usec, out.len())?;
+    put_record(sec, usec, packet, out);
+    Ok(size)
 }

@@ -1,10 +1,11 @@
 -- Steps lead to the end of a capture that is whole, and else to its refusal.
 use Rattle.std.proofs.Common.{◌≡◌, ℕ, zero, suc, ◌+◌, ◌≤◌, Bool, true, false, not, eqb, ltb, List, length, drop, sym, refl, ap, ◌∙◌, true≢false, arith, length-drop, ne_eqb}
+use Rattle.std.specs.Prelude.{Some, None}
 use Rattle.pkt.specs.Answers.{ListAnswer, refused_at, gives_all}
 use Rattle.pkt.proofs.Choice.{fails, pick_yes, pick_no}
 use Rattle.pcap.specs.Pcap.{file_header}
 use Rattle.pcap.specs.Read.{Recorded, Records, whole, broken_after, in_front, number, record_size, is_broken, records_of}
-use Rattle.reading.specs.Reading.{starts_with, header_size, open_at, Next, ended, found, spot_at, step_at, more_at, past_at}
+use Rattle.reading.specs.Reading.{starts_with, header_size, open_at, Next, spot_at, step_at, more_at, past_at}
 use Rattle.reading.specs.Steps.{recorded_at, Steps, ends, breaks, goes}
 use Rattle.reading.specs.Ends.{all_of, records_answer, last_from, last_of, to_the_end, StepsEnd}
 use Rattle.reading.specs.declared.Spot.{Spot}
@@ -13,13 +14,13 @@ use Rattle.reading.proofs.Stepping.{size_more, steps_read}
 
 -- ---- a step finds a record exactly where a whole one stands
 
-pub there_found : (l : List ℕ) (at k : ℕ) → more_at l at ≡ true → step_at l at k ≡ gives_all (found (spot_at l at k))
+pub there_found : (l : List ℕ) (at k : ℕ) → more_at l at ≡ true → step_at l at k ≡ gives_all (Some (spot_at l at k))
 there_found l at k m =
     let y = more_yes l at m in
     let some = ne_eqb (length (drop at l)) 0 (λ (z : length (drop at l) ≡ 0). omega (arith, (broken_no (drop at l) y.1).0)) in
     pick_no _ _ y.0 ∙ pick_no _ _ some ∙ pick_no _ _ y.1
 
-pub found_there : (l : List ℕ) (at k : ℕ) (s : Spot) → step_at l at k ≡ gives_all (found s) → more_at l at ≡ true
+pub found_there : (l : List ℕ) (at k : ℕ) (s : Spot) → step_at l at k ≡ gives_all (Some s) → more_at l at ≡ true
 found_there l at k s e = go (ltb at header_size) refl (eqb (length (drop at l)) 0) refl (is_broken (drop at l)) refl
   where
     go : (a : Bool) → ltb at header_size ≡ a → (b : Bool) → eqb (length (drop at l)) 0 ≡ b → (c : Bool) → is_broken (drop at l) ≡ c → more_at l at ≡ true
@@ -56,7 +57,7 @@ goes_on most k at l e = pick_yes _ _ e
 
 -- what is answered behind k records
 abbrev behind : ℕ → Records → ListAnswer Next
-behind k (whole rs) = gives_all ended
+behind k (whole rs) = gives_all None
 behind k (broken_after rs) = refused_at 25 (k + length rs)
 
 behind_one : (k : ℕ) (r : Recorded) (rs : Records) → behind (suc k) rs ≡ behind k (in_front r rs)

@@ -3,23 +3,17 @@ use Rattle.std.proofs.Common.{◌≡◌, ℕ, suc, ◌+◌, ◌*◌, ◌<◌, �
 use native.Mathlib.Numerals.{add-two}
 use Rattle.pcap.specs.Read.{le_value, number}
 
--- two bytes
-pub number_two : (l : List ℕ) (at : ℕ) → at + 2 ≤ length l → number 2 at l ≡ get_or l at 0 + get_or l (at + 1) 0 * 256
-unfolding number le_value
-number_two l at h =
-    let h₀ : at < length l = omega arith in
-    let h₁ : suc at < length l = omega arith in
-    rw (add-one, drop-cons l at 0, drop-cons l (suc at) 0) (omega arith)
-
--- four bytes are two times two
-pub number_four : (l : List ℕ) (at : ℕ) → at + 4 ≤ length l → number 4 at l ≡ number 2 at l + number 2 (at + 2) l * 65536
+-- four bytes
+pub number_four : (l : List ℕ) (at : ℕ) → at + 4 ≤ length l
+    → number 4 at l ≡ get_or l at 0 + get_or l (at + 1) 0 * 256 + get_or l (at + 2) 0 * 65536 + get_or l (at + 3) 0 * 16777216
 unfolding number le_value
 number_four l at h =
     let h₀ : at < length l = omega arith in
     let h₁ : suc at < length l = omega arith in
     let h₂ : suc (suc at) < length l = omega arith in
     let h₃ : suc (suc (suc at)) < length l = omega arith in
-    rw (add-two, drop-cons l at 0, drop-cons l (suc at) 0, drop-cons l (suc (suc at)) 0, drop-cons l (suc (suc (suc at))) 0) (omega arith)
+    let three : at + 3 ≡ suc (suc (suc at)) = omega arith in
+    rw (three, add-two, add-one, drop-cons l at 0, drop-cons l (suc at) 0, drop-cons l (suc (suc at)) 0, drop-cons l (suc (suc (suc at))) 0) (omega arith)
 
 -- a number behind the first bytes
 pub number_behind : (k i at : ℕ) (l : List ℕ) → number k i (drop at l) ≡ number k (at + i) l

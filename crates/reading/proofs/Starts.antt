@@ -1,27 +1,23 @@
--- Laws of comparing the first bytes: from any place on, and what the whole comparison tells.
-use Rattle.std.proofs.Common.{◌≡◌, ℕ, ◌+◌, ◌<◌, ◌≤◌, Bool, true, false, ◌&&◌, eqb, List, [], ◌∷◌, length, get_or, take, drop, sym, refl, ap, ◌∙◌, ap₂, true≢false, add-one, drop_of_length-le, drop-cons, eq-eqb, ne_eqb, eqb-true}
+-- Laws of comparing the first bytes: what the slice's method answers, and what the whole comparison tells.
+use Rattle.std.proofs.Common.{◌≡◌, ℕ, Bool, true, false, ◌&&◌, eqb, List, [], ◌∷◌, length, take, sym, refl, ◌∙◌, ap₂, true≢false, eq-eqb, ne_eqb, eqb-true}
+use Rattle.std.specs.Cmp.Lexicographic.{pointwise}
 use Rattle.pkt.proofs.Choice.{and_both}
 use Rattle.reading.specs.Reading.{starts_with}
 
-pub starts_done : (h l : List ℕ) (i : ℕ) → length h ≤ i → starts_with (drop i h) l ≡ true
+-- The order of two numbers does not matter to their comparison.
+either_way : (x y : ℕ) → eqb x y ≡ eqb y x
+either_way x y = go (eqb y x) refl
+  where
+    go : (b : Bool) → eqb y x ≡ b → eqb x y ≡ b
+    go true e = eq-eqb x y (sym (eqb-true y x e))
+    go false e = ne_eqb x y (λ (z : x ≡ y). true≢false (sym (eq-eqb y x (sym z)) ∙ e))
+
+-- The slice's method compares the bytes of h with as many of l.
+pub starts_as : (h l : List ℕ) → pointwise eqb h (take (length h) l) ≡ starts_with h l
 unfolding starts_with
-starts_done h l i g = rw (drop_of_length-le h {i = i} g)
-
-pub starts_short : (h l : List ℕ) (i : ℕ) → i < length h → length l ≤ i → starts_with (drop i h) (drop i l) ≡ false
-unfolding starts_with
-starts_short h l i g s = rw (drop-cons h i 0 g, drop_of_length-le l {i = i} s)
-
-starts_here : (h l : List ℕ) (i : ℕ) → i < length h → i < length l
-    → starts_with (drop i h) (drop i l) ≡ (eqb (get_or l i 0) (get_or h i 0) && starts_with (drop (i + 1) h) (drop (i + 1) l))
-unfolding starts_with
-starts_here h l i g s = rw (add-one, drop-cons h i 0 g, drop-cons l i 0 s)
-
-pub starts_differ : (h l : List ℕ) (i : ℕ) → i < length h → i < length l → (get_or l i 0 ≡ get_or h i 0 → ⊥) → starts_with (drop i h) (drop i l) ≡ false
-starts_differ h l i g s n = starts_here h l i g s ∙ ap (λ (b : Bool). b && starts_with (drop (i + 1) h) (drop (i + 1) l)) (ne_eqb _ _ n)
-
-pub starts_alike : (h l : List ℕ) (i : ℕ) → i < length h → i < length l → get_or l i 0 ≡ get_or h i 0
-    → starts_with (drop i h) (drop i l) ≡ starts_with (drop (i + 1) h) (drop (i + 1) l)
-starts_alike h l i g s e = starts_here h l i g s ∙ ap (λ (b : Bool). b && starts_with (drop (i + 1) h) (drop (i + 1) l)) (eq-eqb _ _ e)
+starts_as [] l = refl
+starts_as (x ∷ h) [] = refl
+starts_as (x ∷ h) (y ∷ l) = ap₂ ◌&&◌ (either_way x y) (starts_as h l)
 
 -- What starts with the bytes of h has them as its first, and what has them as its first starts with them.
 pub starts_take : (h l : List ℕ) → starts_with h l ≡ true → take (length h) l ≡ h

@@ -1,9 +1,9 @@
 -- Where steps lead, and what a whole capture is answered.
-use Rattle.std.specs.Prelude.{◌≡◌, ℕ, zero, suc, cond, List, length, drop}
+use Rattle.std.specs.Prelude.{◌≡◌, ℕ, zero, suc, cond, List, length, drop, None}
 use Rattle.pkt.specs.Answers.{ListAnswer, refused_whole, refused_at, gives_all}
 use Rattle.pcap.specs.Pcap.{file_header}
 use Rattle.pcap.specs.Read.{Recorded, Records, whole, broken_after, records_of}
-use Rattle.reading.specs.Reading.{starts_with, header_size, open_at, Next, ended, step_at, more_at, past_at}
+use Rattle.reading.specs.Reading.{starts_with, header_size, open_at, Next, step_at, more_at, past_at}
 
 -- the records where they are whole, or 25 with the number of the first that is not
 abbrev pub all_of : Records → ListAnswer (List Recorded)
@@ -26,7 +26,7 @@ last_of l = last_from (length l) 0 (open_at l) l
 
 -- the same answer, with no more said of the records than that this is their end
 abbrev pub to_the_end : ListAnswer (List Recorded) → ListAnswer Next
-to_the_end (gives_all rs) = gives_all ended
+to_the_end (gives_all rs) = gives_all None
 to_the_end (refused_whole n) = refused_whole n
 to_the_end (refused_at n k) = refused_at n k
 

@@ -1,12 +1,10 @@
 -- Reading a capture step by step: document 02, T-08, "through a reader that holds the lent capture and its place".
-use Rattle.std.specs.Prelude.{ℕ, ◌+◌, ◌%◌, ◌^◌, Bool, true, false, cond, not, ◌&&◌, List, [], ◌∷◌, length, take, drop, ◌==◌, nat_lt}
+use Rattle.std.specs.Prelude.{ℕ, ◌+◌, ◌%◌, ◌^◌, Bool, true, false, cond, not, ◌&&◌, List, [], ◌∷◌, length, take, drop, ◌==◌, nat_lt, Option, Some, None}
 use Rattle.pkt.specs.Answers.{ListAnswer, refused_whole, refused_at, gives_all}
 use Rattle.pcap.specs.Pcap.{file_header}
 use Rattle.pcap.specs.Read.{number, record_at, record_size, is_broken}
 use Rattle.reading.specs.declared.Reader.{Reader}
 use Rattle.reading.specs.declared.Spot.{Spot}
-use Rattle.reading.specs.declared.Step.{Step}
-use Rattle.reading.specs.declared.Step.TheVariants as step
 
 -- whether l starts with the bytes of h
 unfoldable pub starts_with : List ℕ → List ℕ → Bool
@@ -22,16 +20,9 @@ header_size = 24
 abbrev pub open_at : List ℕ → ℕ
 open_at l = cond (starts_with file_header l) header_size 0
 
--- what a step finds: the end, or a record
-pub data Next : Type 0 where
-  ended : Next
-  found : Spot → Next
-
-abbrev pub step_says : Step → ListAnswer Next
-step_says (step.Record s) = gives_all (found s)
-step_says step.End = gives_all ended
-step_says (step.Refused n) = refused_whole n
-step_says (step.RefusedAt n k) = refused_at n k
+-- what a step finds: a record, or at the end none
+abbrev pub Next : Type 0
+Next = Option Spot
 
 -- The record that begins at a place of l and has the number k: its time, the length that it had on the wire, and where its packet stands, behind
 -- its header of 16 bytes.
@@ -55,8 +46,8 @@ packet_at l s = take s.len (drop s.start l)
 abbrev pub step_at : List ℕ → ℕ → ℕ → ListAnswer Next
 step_at l at k =
     cond (nat_lt at header_size) (refused_whole 23)
-    (cond (length (drop at l) == 0) (gives_all ended)
-    (cond (is_broken (drop at l)) (refused_at 25 k) (gives_all (found (spot_at l at k)))))
+    (cond (length (drop at l) == 0) (gives_all None)
+    (cond (is_broken (drop at l)) (refused_at 25 k) (gives_all (Some (spot_at l at k)))))
 
 -- whether a whole record stands at a place
 abbrev pub more_at : List ℕ → ℕ → Bool

@@ -1,9 +1,9 @@
 -- What steps owe the definition of reading in `pcap`.
-use Rattle.std.specs.Prelude.{◌≡◌, ℕ, suc, ◌^◌, ◌<◌, ◌≤◌, true, false, List, [], length, take, drop}
+use Rattle.std.specs.Prelude.{◌≡◌, ℕ, suc, ◌^◌, ◌<◌, ◌≤◌, true, false, List, [], length, take, drop, Some, None}
 use Rattle.pkt.specs.Answers.{refused_whole, refused_at, gives_all}
 use Rattle.pcap.specs.Pcap.{file_header}
 use Rattle.pcap.specs.Read.{Recorded, Records, whole, broken_after, in_front, records_of}
-use Rattle.reading.specs.Reading.{starts_with, header_size, open_at, ended, found, packet_at, step_at, more_at, past_at, count_past}
+use Rattle.reading.specs.Reading.{starts_with, header_size, open_at, packet_at, step_at, more_at, past_at, count_past}
 use Rattle.reading.specs.declared.Spot.{Spot}
 
 -- the record that a step found, with its packet's bytes
@@ -13,9 +13,9 @@ recorded_at l s = record { stamped = record { sec = s.sec; usec = s.usec; packet
 -- The records that steps give, from a place behind k records on, each at the place behind the one before: up to the end, or to the first that is
 -- broken, whose number comes with 25.
 pub data Steps (l : List ℕ) : ℕ → ℕ → Records → Type 0 where
-  ends : (at k : ℕ) → step_at l at k ≡ gives_all ended → Steps l at k (whole [])
+  ends : (at k : ℕ) → step_at l at k ≡ gives_all None → Steps l at k (whole [])
   breaks : (at k : ℕ) → step_at l at k ≡ refused_at 25 k → Steps l at k (broken_after [])
-  goes : (at k : ℕ) (s : Spot) (rs : Records) → step_at l at k ≡ gives_all (found s) → s.number ≡ k → Steps l (past_at l at) (suc k) rs
+  goes : (at k : ℕ) (s : Spot) (rs : Records) → step_at l at k ≡ gives_all (Some s) → s.number ≡ k → Steps l (past_at l at) (suc k) rs
       → Steps l at k (in_front (recorded_at l s) rs)
 
 pub record StepsRead : Type 0 where

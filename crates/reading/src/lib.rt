@@ -4,9 +4,11 @@
 
 ghost use Rattle.std.specs.Prelude.{◌≡◌, ◌+◌, ◌≤◌, false, length, drop};
 ghost use Rattle.pcap.specs.Read.{number, is_broken, record_size};
-ghost use Rattle.reading.specs.Reading.{starts_with, open_at, step_says, step_at, more_at, past_at, count_past, moved};
+ghost use Rattle.pkt.specs.Answers.{list_says};
+ghost use Rattle.reading.specs.Reading.{open_at, step_at, more_at, past_at, count_past, moved};
 
-use pkt::{limit, refusal};
+use pkt::limit;
+use pkt::refusal::{ListRefusal, Refusal};
 
 // A lent capture, a place in it, and how many records lie before that place.
 #[derive(Clone, Copy, Drop)]
@@ -27,72 +29,37 @@ pub struct Spot {
     pub original: u32,
 }
 
-// What stands at a reader's place: a record, the end, or a refusal's number, with the record's where it is for one.
-#[derive(Clone, Copy, Drop)]
-pub enum Step {
-    Record(Spot),
-    End,
-    Refused(u8),
-    RefusedAt(u8, usize),
-}
-
-// Whether s starts with the bytes of h.
-fn starts_with(s: &[u8], h: &[u8]) -> bool
-    ensures { result ≡ starts_with h.now s.now }
-{
-    let mut i = 0;
-    while i < h.len() {
-        if s.len() <= i {
-            return false;
-        }
-        if s[i] != h[i] {
-            return false;
-        }
-        i += 1;
-    }
-    true
-}
-
 // The place of the first record, or 0 where the capture does not start with document 01's file header.
+#[tactic(auto, using(crate::proofs::Starts::starts_as))]
 pub fn opening(s: &[u8]) -> usize
     ensures { result ≡ open_at s.now }
 {
     let h = pcap::header();
-    if starts_with(s, &h) { 24 } else { 0 }
-}
-
-// The number in two bytes, the first the lower.
-fn le16(s: &[u8], at: usize) -> u16
-    requires { at + 2 ≤ length s.now }
-    ensures { result ≡ number 2 at s.now }
-{
-    s[at] as u16 + (s[at + 1] as u16) * 256
+    if s.starts_with(&h) { 24 } else { 0 }
 }
 
 // The number in four bytes, the first the lowest.
+#[tactic(auto, using(crate::proofs::Numbers::number_four))]
 fn le32(s: &[u8], at: usize) -> u32
     requires { at + 4 ≤ length s.now }
     ensures { result ≡ number 4 at s.now }
 {
-    le16(s, at) as u32 + (le16(s, at + 2) as u32) * 65536
+    u32::from_le_bytes([s[at], s[at + 1], s[at + 2], s[at + 3]])
 }
 
 // Whether the record at a place is cut short, its header or its bytes, or is above 65,535 bytes.
 fn is_broken(s: &[u8], at: usize) -> bool
     ensures { result ≡ is_broken (drop at s.now) }
 {
-    let n = s.len();
-    if n < at {
-        return true;
-    }
-    if n - at < 16 {
+    let left = s.len().saturating_sub(at);
+    if left < 16 {
         return true;
     }
     let len = le32(s, at + 8) as usize;
     if limit::BYTES < len {
         return true;
     }
-    n - at < 16 + len
+    left < 16 + len
 }
 
 // The bytes of the record at a place, its header among them.
@@ -103,27 +70,27 @@ fn size(s: &[u8], at: usize) -> usize
     16 + le32(s, at + 8) as usize
 }
 
-// What stands at a place behind count records.
-pub fn step_at(s: &[u8], at: usize, count: usize) -> Step
-    ensures { step_says result ≡ step_at s.now at count }
+// What stands at a place behind count records: a record, or None at the end.
+pub fn step_at(s: &[u8], at: usize, count: usize) -> Result<Option<Spot>, ListRefusal>
+    ensures { list_says result ≡ step_at s.now at count }
 {
     if at < 24 {
-        return Step::Refused(refusal::NOT_CAPTURE);
+        return Err(ListRefusal::Whole(Refusal::NotCapture));
     }
     if s.len() <= at {
-        return Step::End;
+        return Ok(None);
     }
     if is_broken(s, at) {
-        return Step::RefusedAt(refusal::BROKEN, count);
+        return Err(ListRefusal::At(Refusal::Broken, count));
     }
-    Step::Record(Spot {
+    Ok(Some(Spot {
         number: count,
         sec: le32(s, at),
         usec: le32(s, at + 4),
         start: at + 16,
         len: le32(s, at + 8) as usize,
         original: le32(s, at + 12),
-    })
+    }))
 }
 
 // Whether a whole record stands at a place.
@@ -151,7 +118,7 @@ fn count_past(s: &[u8], at: usize, count: usize) -> usize
     ensures { result ≡ count_past s.now at count }
 {
     if more_at(s, at) {
-        return std::num::wrapping_add_usize(count, 1);
+        return count.wrapping_add(1);
     }
     count
 }
@@ -168,9 +135,9 @@ pub fn open<'a>(capture: &'a [u8]) -> Reader<'a>
     }
 }
 
-// What stands at the reader's place.
-pub fn here<'a>(r: Reader<'a>) -> Step
-    ensures { step_says result ≡ step_at r.entry.capture.now r.entry.at r.entry.count }
+// What stands at the reader's place: a record, or None at the end.
+pub fn here<'a>(r: Reader<'a>) -> Result<Option<Spot>, ListRefusal>
+    ensures { list_says result ≡ step_at r.entry.capture.now r.entry.at r.entry.count }
 {
     step_at(r.capture, r.at, r.count)
 }

@@ -1,25 +1,15 @@
 -- The tests that led there pick the case, and each number of a record is read where it stands.
-use Rattle.std.proofs.Common.{◌≡◌, ℕ, length, drop, sym, ap, ◌∙◌, arith, length-drop, le-ltb, lt-ltb, eq-eqb, ne_eqb}
+use Rattle.std.proofs.Common.{◌≡◌, ℕ, length, drop, sym, ap, ◌∙◌, arith, length-drop, le-ltb, eq-eqb, ne_eqb}
 use Rattle.pcap.specs.Read.{number, record_at}
 use Rattle.reading.proofs.Numbers.{number_behind}
 use Rattle.reading.proofs.Broken.{broken_no}
 use Rattle.reading.proofs.step_at.Goals as goal
-
-pub returns-then-at-lt24 : goal.returns-then-at-lt24
-returns-then-at-lt24 c = simp (lt-ltb _ _ c.if-at-lt24.true)
 
 pub returns-then-s-at : goal.returns-then-s-at
 returns-then-s-at c =
     let a = c.args in
     let none : length (drop a.at a.s.now) ≡ 0 = omega (arith, length-drop a.at a.s.now) in
     simp (le-ltb _ _ c.if-at-lt24.false, eq-eqb _ _ none)
-
-pub returns-then-is_broken : goal.returns-then-is_broken
-returns-then-is_broken c =
-    let a = c.args in
-    let d = length-drop a.at a.s.now in
-    let more = ne_eqb (length (drop a.at a.s.now)) 0 (λ (z : length (drop a.at a.s.now) ≡ 0). omega arith) in
-    simp (le-ltb _ _ c.if-at-lt24.false, more, sym c.is_broken.ensures ∙ c.if-is_broken.true)
 
 pub le32-requires : goal.le32-requires
 le32-requires c =
