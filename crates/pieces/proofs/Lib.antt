@@ -1,4 +1,3 @@
-pub mod Answering
 pub mod OneByOne
 pub mod Only
 pub mod Putting

@@ -9,23 +9,25 @@ use lib.ListN.{length, take, drop, length-drop}
 use lib.Dec.{ltb}
 use borrow.Author.Tests.{ltb-true, lt-ltb, le-ltb}
 use Rattle.pkt.specs.Answers.{Answer, refused, gives, ListAnswer, refused_at, gives_all, plainly, most_ip, most_offset}
+use Rattle.std.specs.Prelude.{Result, Ok, Err}
 use Rattle.pkt.specs.Written.{written, leaves}
+use Rattle.pkt.specs.Refusal.{number_of}
+use Rattle.pkt.specs.declared.refusal.Refusal.{Refusal}
+use Rattle.pkt.specs.declared.refusal.Refusal.TheVariants.{BadOffset}
+use Rattle.pkt.specs.declared.refusal.ListRefusal.{ListRefusal}
+use Rattle.pkt.specs.declared.refusal.ListRefusal.TheVariants.{At}
+use Rattle.pkt.proofs.Only.{says_only, list_says_only}
 use Rattle.pkt.proofs.Choice.{pick_no}
 use Rattle.pkt.proofs.Written.{written_length, written_then}
 use Rattle.ezpkt.specs.Build.{packet_of, is_bad_offset, Answered}
 use Rattle.ezpkt.specs.Ip4.{fragment_of}
 use Rattle.ezpkt.specs.declared.ip4.Template.{Template}
-use Rattle.ezpkt.specs.declared.build.Built.TheVariants as built
 use Rattle.ezpkt.proofs.Deciding.{piece_fits, piece_given}
-use Rattle.ezpkt.proofs.Only.{built_only}
 use Rattle.ezpkt.proofs.Sizes.{size_is}
 use Rattle.pieces.specs.declared.BlockRequest.{BlockRequest}
-use Rattle.pieces.specs.declared.Pieces.{Pieces}
-use Rattle.pieces.specs.declared.Pieces.TheVariants.{Written}
 use Rattle.pieces.specs.Fragments.{packets_of, size_for, ends_from, sum_of, first_bad, fragments_answer, Fragmented}
 use Rattle.pieces.specs.OneByOne.{OneByOne, none, one, request_at, RefusedBy2, NotRefusedBy2, ListEquals}
-use Rattle.pieces.proofs.Only.{pieces_only}
-use Rattle.pieces.proofs.Turns.{Fits, Decided, stopped, stopped_at, goes, decided, near_before, written_none}
+use Rattle.pieces.proofs.Turns.{Decided, stopped, stopped_at, goes, decided, fits_gives, gives_fits, near_before, written_none}
 
 -- the packet of a request
 abbrev packet : Template → List ℕ → BlockRequest → List ℕ
@@ -35,7 +37,7 @@ packet t p r = packet_of (fragment_of t r.off r.len) p
 
 -- a request whose offset is near enough is taken where its packet has room
 takes : (t : Template) (r : BlockRequest) (p o : List ℕ) → length p ≤ most_ip → r.off ≤ most_offset → size_for (length p) r ≤ length o
-    → Answered (fragment_of t r.off r.len) p o (built.Packet (size_for (length p) r)) (written (packet t p r) o)
+    → Answered (fragment_of t r.off r.len) p o (Ok (size_for (length p) r)) (written (packet t p r) o)
 takes t r p o few near fits =
     let yes = piece_given t r.off r.len (length p) (length o) few near fits in
     record { answer = sym yes; after = ap (λ (a : Answer ℕ). leaves a (packet t p r) o) (sym yes) }
@@ -48,7 +50,7 @@ record Took (t : Template) (r : BlockRequest) (p o : List ℕ) (n : ℕ) (o₁ :
   bytes : o₁ ≡ written (packet t p r) o
 
 took : (t : Template) (r : BlockRequest) (p o : List ℕ) (n : ℕ) (o₁ : List ℕ)
-    → Answered (fragment_of t r.off r.len) p o (built.Packet n) o₁ → Took t r p o n o₁
+    → Answered (fragment_of t r.off r.len) p o (Ok n) o₁ → Took t r p o n o₁
 took t r p o n o₁ x =
     let f = piece_fits (record { template = t; off = r.off; len = r.len }) (length p) (length o) n (sym x.answer) in
     record {
@@ -68,7 +70,7 @@ left_length k o n e h = omega (arith, length-drop n (written k o), written_lengt
 
 -- Number 2 is given for a bad offset,
 refuses : (t : Template) (p : List ℕ) (r : BlockRequest) → length p ≤ most_ip → most_offset < r.off → RefusedBy2 t p r
-refuses t p r few bad o o' s x = built_only s (built.Refused 2) (refused 2) (x.answer ∙ simp (le-ltb _ _ few, lt-ltb _ _ bad)) refl
+refuses t p r few bad o o' s x = says_only s (Err BadOffset) (refused 2) (x.answer ∙ simp (le-ltb _ _ few, lt-ltb _ _ bad)) refl
 
 -- .. and for no other.
 refuses_not : (t : Template) (p : List ℕ) (r : BlockRequest) → length p ≤ most_ip → r.off ≤ most_offset → NotRefusedBy2 t p r
@@ -152,22 +154,8 @@ told {t} {p} (one at n r rs o o₁ rest es x more) =
           ∙ ap (λ (j : ℕ). (at + j) ∷ ends_from (length p) (at + j) rs) (sym k.is_size);
     }
 
--- where nothing stops the call, it is accepted
-fits_gives : (rs : List BlockRequest) (n room places : ℕ) → Fits rs n room places → fragments_answer rs n room places ≡ gives_all (sum_of n rs)
-fits_gives rs n room places f =
-    simp (le-ltb _ _ f.few, le-ltb _ _ f.none_bad, le-ltb _ _ f.room_for, le-ltb _ _ f.places_for)
-
--- .. and only there
-gives_fits : (rs : List BlockRequest) (n room places k : ℕ) → gives_all k ≡ fragments_answer rs n room places → Fits rs n room places
-gives_fits rs n room places k e = go (decided rs n room places) e
-  where
-    go : {a : ListAnswer ℕ} → Decided rs n room places a → gives_all k ≡ a → Fits rs n room places
-    go (stopped j) q = let z : ◌≡◌ {A = ℕ} 0 1 = cc in absurd (omega arith)
-    go (stopped_at few bad) q = let z : ◌≡◌ {A = ℕ} 0 1 = cc in absurd (omega arith)
-    go (goes f) q = f
-
 -- what an accepted call leaves
-leaves_all : (t : Template) (rs : List BlockRequest) (p o e o' e' : List ℕ) (r : Pieces) (k : ℕ) → Fragmented t rs p o e r o' e'
+leaves_all : (t : Template) (rs : List BlockRequest) (p o e o' e' : List ℕ) (r : Result ℕ ListRefusal) (k : ℕ) → Fragmented t rs p o e r o' e'
     → fragments_answer rs (length p) (length o) (length e) ≡ gives_all k
     → (o' ≡ written (packets_of t rs p) o) × (e' ≡ written (ends_from (length p) 0 rs) e)
 leaves_all t rs p o e o' e' r k x q = (
@@ -176,18 +164,18 @@ leaves_all t rs p o e o' e' r k x q = (
 )
 
 -- an index is given with number 2 alone, and is the first bad request's
-record BadAt (rs : List BlockRequest) (m n i : ℕ) : Type 0 where
+record BadAt (rs : List BlockRequest) (m : ℕ) (n : Refusal) (i : ℕ) : Type 0 where
   few : m ≤ most_ip
-  is_2 : n ≡ 2
+  is_2 : n ≡ BadOffset
   is_first : i ≡ first_bad rs
   in_list : first_bad rs < length rs
 
-bad_at : (rs : List BlockRequest) (m room places n i : ℕ) → refused_at n i ≡ fragments_answer rs m room places → BadAt rs m n i
+bad_at : (rs : List BlockRequest) (m room places : ℕ) (n : Refusal) (i : ℕ) → refused_at (number_of n) i ≡ fragments_answer rs m room places → BadAt rs m n i
 bad_at rs m room places n i e = go (decided rs m room places) e
   where
-    go : {a : ListAnswer ℕ} → Decided rs m room places a → refused_at n i ≡ a → BadAt rs m n i
+    go : {a : ListAnswer ℕ} → Decided rs m room places a → refused_at (number_of n) i ≡ a → BadAt rs m n i
     go (stopped j) q = let z : ◌≡◌ {A = ℕ} 0 1 = cc in absurd (omega arith)
-    go (stopped_at few bad) q = record { few = few; is_2 = cc; is_first = cc; in_list = bad }
+    go (stopped_at few bad) q = record { few = few; is_2 = cc (list_says_only {A = ℕ} (Err (At n i)) (Err (At BadOffset (first_bad rs))) _ q refl); is_first = cc; in_list = bad }
     go (goes f) q = let z : ◌≡◌ {A = ℕ} 0 1 = cc in absurd (omega arith)
 
 -- "The result equals building them one by one in list order."
@@ -197,7 +185,7 @@ list_equals =
       accepted =
           λ t rs p o e o' e' k x.
           let f = gives_fits rs (length p) (length o) (length e) k x.answer in
-          let l = leaves_all t rs p o e o' e' (Written k) k x (sym x.answer) in (
+          let l = leaves_all t rs p o e o' e' (Ok k) k x (sym x.answer) in (
             ends_from (length p) 0 rs,
             rw l.0 (one_by_one t p 0 rs o f.few f.none_bad f.room_for),
             l.1,
@@ -209,7 +197,7 @@ list_equals =
           fits_gives rs (length p) (length o) (length e)
           (record { few = few; none_bad = m.none_bad; room_for = m.room_for; places_for = places }) in
           let l = leaves_all t rs p o e o' e' r (sum_of (length p) rs) y g in (
-            pieces_only r (Written (sum_of (length p) rs)) (gives_all (sum_of (length p) rs)) (y.answer ∙ g) refl,
+            list_says_only r (Ok (sum_of (length p) rs)) (gives_all (sum_of (length p) rs)) (y.answer ∙ g) refl,
             l.0 ∙ sym m.bytes,
             l.1 ∙ ap (λ (k : List ℕ). written k e) (sym m.ends),
           );

@@ -1,25 +1,27 @@
 -- One packet more: `fragment` takes the request, and leaves its packet behind the bytes before.
-use mathlib.Core.Path.{◌≡◌, ap, ◌∙◌}
+use mathlib.Core.Path.{◌≡◌, refl, ap, ◌∙◌}
 use mathlib.Core.List.{List, ◌++◌}
 use Prim.Native.Nat.{ℕ, ◌-◌}
 use native.Mathlib.Omega.{arith}
 use lib.ListN.{length, take, drop, length-drop}
 use borrow.Rule.Slice.PartMut.{mid_of, put_mid}
+use Rattle.std.specs.Prelude.{Result, Ok}
+use Rattle.std.specs.Result.{result_unwrap_or}
 use Rattle.pkt.specs.Answers.{Answer, gives}
+use Rattle.pkt.specs.declared.refusal.Refusal.{Refusal}
+use Rattle.pkt.proofs.Only.{says_only}
 use Rattle.pkt.specs.Written.{written, leaves}
 use Rattle.pkt.proofs.Parts.{mid_tail}
 use Rattle.pkt.proofs.Written.{put_behind}
 use Rattle.ezpkt.proofs.Deciding.{piece_given}
-use Rattle.ezpkt.specs.Answers.{built_says}
 use Rattle.ezpkt.specs.Build.{packet_of, answer_of, Answered}
 use Rattle.ezpkt.specs.Ip4.{fragment_of}
 use Rattle.ezpkt.specs.declared.ip4.Template.{Template}
-use Rattle.ezpkt.specs.declared.build.Built.{Built}
 use Rattle.pieces.specs.declared.BlockRequest.{BlockRequest}
 use Rattle.pieces.specs.Fragments.{size_for}
-use Rattle.pieces.specs.Survey.{length_of, PutAsks}
+use Rattle.pieces.specs.Survey.{PutAsks}
 
-module _ (t : Template) (r : BlockRequest) (i at : ℕ) (p o : List ℕ) (places : ℕ) (asks : PutAsks r i at (length p) (length o) places) (s : Built) (o₁ : List ℕ)
+module _ (t : Template) (r : BlockRequest) (i at : ℕ) (p o : List ℕ) (places : ℕ) (asks : PutAsks r i at (length p) (length o) places) (s : Result ℕ Refusal) (o₁ : List ℕ)
     (call : Answered (fragment_of t r.off r.len) p (mid_of at (length o - at) o) s o₁) where
   part_is : mid_of at (length o - at) o ≡ drop at o
   part_is = mid_tail at o
@@ -29,8 +31,8 @@ module _ (t : Template) (r : BlockRequest) (i at : ℕ) (p o : List ℕ) (places
       ap (λ (l : List ℕ). answer_of (fragment_of t r.off r.len) (length p) (length l)) part_is
       ∙ piece_given t r.off r.len (length p) (length (drop at o)) asks.few asks.near (omega (arith, length-drop at o, asks.room_for))
 
-  pub put_size : length_of (built_says s) ≡ size_for (length p) r
-  put_size = ap length_of (call.answer ∙ taken)
+  pub put_size : result_unwrap_or s 0 ≡ size_for (length p) r
+  put_size = ap (λ (x : Result ℕ Refusal). result_unwrap_or x 0) (says_only s (Ok (size_for (length p) r)) _ (call.answer ∙ taken) refl)
 
   pub put_output : put_mid at (length o - at) o o₁ ≡ take at o ++ written (packet_of (fragment_of t r.off r.len) p) (drop at o)
   put_output =

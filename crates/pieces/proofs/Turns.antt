@@ -9,28 +9,24 @@ use native.Mathlib.Omega.{arith}
 use lib.ListN.{length, get_or, set, take, drop, length-append, length-take}
 use lib.Seq.{take-suc, take-length}
 use lib.Dec.{ltb}
-use borrow.Author.Tests.{ltb-true, ltb-false}
-use Rattle.pkt.specs.Answers.{ListAnswer, refused_whole, refused_at, gives_all, plainly, most_ip, most_offset}
+use borrow.Author.Tests.{ltb-true, ltb-false, le-ltb}
+use Rattle.std.specs.Prelude.{Result, Ok, Err}
+use Rattle.pkt.specs.declared.refusal.ListRefusal.{ListRefusal}
+use Rattle.pkt.specs.declared.refusal.ListRefusal.TheVariants.{Whole, At}
+use Rattle.pkt.specs.Answers.{ListAnswer, refused_whole, refused_at, gives_all, list_says, plainly, most_ip, most_offset}
 use Rattle.pkt.specs.Written.{written, leaves}
 use Rattle.pkt.proofs.Choice.{or_no}
-use Rattle.pkt.proofs.Written.{written_length, written_then}
+use Rattle.pkt.proofs.Written.{written_then}
 use Rattle.ezpkt.specs.Build.{packet_of, is_bad_offset}
 use Rattle.ezpkt.specs.Ip4.{fragment_of}
 use Rattle.ezpkt.specs.declared.ip4.Template.{Template}
 use Rattle.ezpkt.proofs.Sizes.{size_is}
 use Rattle.pieces.specs.declared.BlockRequest.{BlockRequest}
-use Rattle.pieces.specs.Fragments.{packets_of, size_for, ends_from, sum_of, first_bad, fragments_answer}
+use Rattle.pieces.specs.Fragments.{packets_of, size_for, ends_from, sum_of, first_bad, fragments_answer, Fragmented}
 use Rattle.pieces.specs.OneByOne.{no_request, request_at}
-use Rattle.pieces.specs.Survey.{count_by, PutAsks, Put}
+use Rattle.pieces.specs.Survey.{Fits, PutAsks, Put}
 
 -- ---- the answer's cases
-
--- nothing stops the call: the payload is short enough, no offset is bad, and there is room for the packets and a place for each end
-pub record Fits (rs : List BlockRequest) (n room places : ℕ) : Type 0 where
-  pub few : n ≤ most_ip
-  pub none_bad : length rs ≤ first_bad rs
-  pub room_for : sum_of n rs ≤ room
-  pub places_for : length rs ≤ places
 
 -- an answer, and what holds where it is given
 pub data Decided (rs : List BlockRequest) (n room places : ℕ) : ListAnswer ℕ → Type 0 where
@@ -58,27 +54,19 @@ decided rs n room places =
           places_for = ltb-false _ _ no.1;
         })
 
--- how many requests are written
-abbrev pub count_of : List BlockRequest → ℕ → ℕ → ℕ → ℕ
-count_of rs n room places = count_by (fragments_answer rs n room places) (length rs)
+-- where nothing stops the call, it is accepted
+pub fits_gives : (rs : List BlockRequest) (n room places : ℕ) → Fits rs n room places → fragments_answer rs n room places ≡ gives_all (sum_of n rs)
+fits_gives rs n room places f =
+    simp (le-ltb _ _ f.few, le-ltb _ _ f.none_bad, le-ltb _ _ f.room_for, le-ltb _ _ f.places_for)
 
--- they are in the list
-pub count_within : (rs : List BlockRequest) (n room places : ℕ) → count_of rs n room places ≤ length rs
-count_within rs n room places = go (fragments_answer rs n room places)
+-- .. and only there
+pub gives_fits : (rs : List BlockRequest) (n room places k : ℕ) → gives_all k ≡ fragments_answer rs n room places → Fits rs n room places
+gives_fits rs n room places k e = go (decided rs n room places) e
   where
-    go : (a : ListAnswer ℕ) → count_by a (length rs) ≤ length rs
-    go (refused_whole k) = omega arith
-    go (refused_at k i) = omega arith
-    go (gives_all k) = omega arith
-
--- where one is written, nothing stops the call
-counted : (rs : List BlockRequest) (n room places i : ℕ) → i < count_of rs n room places → Fits rs n room places
-counted rs n room places i h = go (decided rs n room places) h
-  where
-    go : {a : ListAnswer ℕ} → Decided rs n room places a → i < count_by a (length rs) → Fits rs n room places
-    go (stopped k) g = absurd (not-suc-le-zero g)
-    go (stopped_at few bad) g = absurd (not-suc-le-zero g)
-    go (goes f) g = f
+    go : {a : ListAnswer ℕ} → Decided rs n room places a → gives_all k ≡ a → Fits rs n room places
+    go (stopped j) q = absurd cc
+    go (stopped_at few bad) q = absurd cc
+    go (goes f) q = f
 
 -- ---- bad offsets
 
@@ -140,17 +128,6 @@ sum_before n zero rs = omega arith
 sum_before n (suc i) [] = omega arith
 sum_before n (suc i) (r ∷ rs) = omega (arith, sum_before n i rs)
 
--- after as many turns as there are, the packets have room
-sum_fits : (rs : List BlockRequest) (n room places i : ℕ) → i ≤ count_of rs n room places → sum_of n (take i rs) ≤ room
-unfolding sum_of
-sum_fits rs n room places zero h = omega arith
-sum_fits rs n room places (suc i) h = omega (arith, (counted rs n room places i h).room_for, sum_before n (suc i) rs)
-
--- .. and the ends their places
-ends_fit : (rs : List BlockRequest) (n room places i : ℕ) → i ≤ count_of rs n room places → i ≤ places
-ends_fit rs n room places zero h = omega arith
-ends_fit rs n room places (suc i) h = omega (arith, (counted rs n room places i h).places_for, count_within rs n room places)
-
 -- a store behind what is written writes one more
 written_more : (a d : List ℕ) (v : ℕ) → length a < length d → set (written a d) (length a) v ≡ written (a ++ (v ∷ [])) d
 unfolding written
@@ -168,10 +145,12 @@ pub written_none : (d : List ℕ) → written [] d ≡ d
 unfolding written
 written_none d = refl
 
-module _ (t : Template) (rs : List BlockRequest) (p o e : List ℕ) where
-  abbrev pub count : ℕ
-  count = count_of rs (length p) (length o) (length e)
+-- where the call is refused, nothing is written
+refused_keeps : (a : ListAnswer ℕ) (r : ListRefusal) (x o : List ℕ) → list_says {A = ℕ} (Err r) ≡ a → leaves (plainly a) x o ≡ o
+refused_keeps a (Whole k) x o e = ap (λ (b : ListAnswer ℕ). leaves (plainly b) x o) (sym e)
+refused_keeps a (At k i) x o e = ap (λ (b : ListAnswer ℕ). leaves (plainly b) x o) (sym e)
 
+module _ (t : Template) (rs : List BlockRequest) (p o e : List ℕ) where
   abbrev pub end_at_turn : ℕ → ℕ
   end_at_turn i = sum_of (length p) (take i rs)
 
@@ -185,95 +164,101 @@ module _ (t : Template) (rs : List BlockRequest) (p o e : List ℕ) where
   abbrev pub asked : ℕ → BlockRequest
   asked i = request_at rs i
 
-  -- the lent lists stay as long as they were
-  pub out_length : (i : ℕ) → i ≤ count → length (out_at i) ≡ length o
-  out_length i h =
-      written_length (packets_of t (take i rs) p) o (omega (arith, packets_length t (take i rs) p, sum_fits rs (length p) (length o) (length e) i h))
-
-  -- there are i requests before turn i
-  taken : (i : ℕ) → i ≤ count → length (ends_from (length p) 0 (take i rs)) ≡ i
-  taken i h =
-      ends_count (length p) 0 (take i rs) ∙ length-take i rs ∙ omega (arith, count_within rs (length p) (length o) (length e))
-
-  pub ends_length : (i : ℕ) → i ≤ count → length (ends_at i) ≡ length e
-  ends_length i h =
-      written_length (ends_from (length p) 0 (take i rs)) e (omega (arith, taken i h, ends_fit rs (length p) (length o) (length e) i h))
-
-  -- the end of the last packet is in the output
-  pub end_within : (i : ℕ) → i ≤ count → end_at_turn i ≤ length o
-  end_within i h = sum_fits rs (length p) (length o) (length e) i h
-
-  -- the request of turn i is behind those before
-  taken_more : (i : ℕ) → i < count → take (i + 1) rs ≡ take i rs ++ (asked i ∷ [])
-  taken_more i h =
-      let in_list : i < length rs = omega (arith, count_within rs (length p) (length o) (length e)) in
-      rw add-one (take-suc rs i no_request in_list)
-
-  -- turn i leads from i turns to i + 1: the end,
-  pub end_more : (i : ℕ) → i < count → end_at_turn i + size_for (length p) (asked i) ≡ end_at_turn (i + 1)
-  end_more i h = sym (ap (sum_of (length p)) (taken_more i h) ∙ sum_snoc (length p) (take i rs) (asked i))
-
-  -- .. what `put` asks,
-  pub turn_asks : (i : ℕ) → i < count → PutAsks (asked i) i (end_at_turn i) (length p) (length o) (length e)
-  turn_asks i h =
-      let fits = counted rs (length p) (length o) (length e) i h in
-      let within = count_within rs (length p) (length o) (length e) in
-      record {
-        few = fits.few;
-        near = near_before rs i (omega (arith, fits.none_bad));
-        room_for = omega (arith, end_more i h, end_within (i + 1) (omega arith));
-        place_for = omega (arith, fits.places_for);
-      }
-
-  -- .. the output,
-  pub out_more : (i : ℕ) → i < count
-      → take (end_at_turn i) (out_at i) ++ written (packet_of (fragment_of t (asked i).off (asked i).len) p) (drop (end_at_turn i) (out_at i)) ≡ out_at (i + 1)
-  out_more i h =
-      let pk = packet_of (fragment_of t (asked i).off (asked i).len) p in
-      let more : packets_of t (take (i + 1) rs) p ≡ packets_of t (take i rs) p ++ pk =
-      ap (λ (l : List BlockRequest). packets_of t l p) (taken_more i h) ∙ packets_snoc t (take i rs) (asked i) p in
-      written_then (packets_of t (take i rs) p) pk o (end_at_turn i) (packets_length t (take i rs) p) ∙ ap (λ (l : List ℕ). written l o) (sym more)
-
-  -- .. and the ends
-  pub ends_more : (i : ℕ) → i < count → set (ends_at i) i (end_at_turn i + size_for (length p) (asked i)) ≡ ends_at (i + 1)
-  ends_more i h =
-      let n = length p in
-      let v = end_at_turn i + size_for n (asked i) in
-      let at : length (ends_from n 0 (take i rs)) ≡ i = taken i (omega arith) in
-      let more : ends_from n 0 (take (i + 1) rs) ≡ ends_from n 0 (take i rs) ++ (v ∷ []) =
-      ap (ends_from n 0) (taken_more i h) ∙ ends_snoc n 0 (take i rs) (asked i) ∙ simp zero-add in
-      ap (λ (k : ℕ). set (ends_at i) k v) (sym at)
-      ∙ written_more (ends_from n 0 (take i rs)) e v (omega (arith, at, ends_fit rs n (length o) (length e) (suc i) h))
-      ∙ ap (λ (l : List ℕ). written l e) (sym more)
-
-  -- What `put` leaves in turn i, where it found what stands after i turns, is what stands after i + 1.
-  pub turn_more : (i at : ℕ) (b f : List ℕ) (end : ℕ) (b' f' : List ℕ) → i < count → at ≡ end_at_turn i → b ≡ out_at i → f ≡ ends_at i
-      → Put t (asked i) i at p b f end b' f' → (end ≡ end_at_turn (i + 1)) × (b' ≡ out_at (i + 1)) × (f' ≡ ends_at (i + 1))
-  turn_more i at b f end b' f' h ea eb ef put =
-      let pk = packet_of (fragment_of t (asked i).off (asked i).len) p in
-      let n : ℕ = size_for (length p) (asked i) in (
-        put.is_end ∙ ap (λ (a : ℕ). a + n) ea ∙ end_more i h,
-        put.output ∙ ap₂ (λ (a : ℕ) (d : List ℕ). take a d ++ written pk (drop a d)) ea eb ∙ out_more i h,
-        put.ends ∙ ap₂ (λ (d : List ℕ) (a : ℕ). set d i (a + n)) ef ea ∙ ends_more i h,
-      )
-
-  -- .. and it asks no more than holds there.
-  pub turn_allowed : (i at : ℕ) (b f : List ℕ) → i < count → at ≡ end_at_turn i → length b ≡ length o → length f ≡ length e
-      → PutAsks (asked i) i at (length p) (length b) (length f)
-  turn_allowed i at b f h ea eb ef = rw (ea, eb, ef) (turn_asks i h)
-
   -- before the first turn
   pub at_first : (out_at 0 ≡ o) × (ends_at 0 ≡ e)
   unfolding packets_of ends_from
   at_first = (written_none o, written_none e)
 
-  -- after the last
-  pub at_last : (out_at count ≡ leaves (plainly (fragments_answer rs (length p) (length o) (length e))) (packets_of t rs p) o)
-      × (ends_at count ≡ leaves (plainly (fragments_answer rs (length p) (length o) (length e))) (ends_from (length p) 0 rs) e)
-  at_last = go (fragments_answer rs (length p) (length o) (length e))
-    where
-      go : (a : ListAnswer ℕ) → (out_at (count_by a (length rs)) ≡ leaves (plainly a) (packets_of t rs p) o)
-          × (ends_at (count_by a (length rs)) ≡ leaves (plainly a) (ends_from (length p) 0 rs) e)
-      go (refused_whole k) = at_first
-      go (refused_at k i) = at_first
-      go (gives_all k) = (rw take-length refl, rw take-length refl)
+  module _ (fits : Fits rs (length p) (length o) (length e)) where
+    -- there are i requests before turn i
+    taken : (i : ℕ) → i ≤ length rs → length (ends_from (length p) 0 (take i rs)) ≡ i
+    taken i h = ends_count (length p) 0 (take i rs) ∙ length-take i rs ∙ omega arith
+
+    -- the end of the last packet is in the output
+    pub end_within : (i : ℕ) → end_at_turn i ≤ length o
+    end_within i = omega (arith, fits.room_for, sum_before (length p) i rs)
+
+    -- the request of turn i is behind those before
+    taken_more : (i : ℕ) → i < length rs → take (i + 1) rs ≡ take i rs ++ (asked i ∷ [])
+    taken_more i h = rw add-one (take-suc rs i no_request h)
+
+    -- turn i leads from i turns to i + 1: the end,
+    pub end_more : (i : ℕ) → i < length rs → end_at_turn i + size_for (length p) (asked i) ≡ end_at_turn (i + 1)
+    end_more i h = sym (ap (sum_of (length p)) (taken_more i h) ∙ sum_snoc (length p) (take i rs) (asked i))
+
+    -- .. what `put` asks,
+    pub turn_asks : (i : ℕ) → i < length rs → PutAsks (asked i) i (end_at_turn i) (length p) (length o) (length e)
+    turn_asks i h =
+        record {
+          few = fits.few;
+          near = near_before rs i (omega (arith, fits.none_bad));
+          room_for = omega (arith, end_more i h, end_within (i + 1));
+          place_for = omega (arith, fits.places_for);
+        }
+
+    -- .. the output,
+    pub out_more : (i : ℕ) → i < length rs
+        → take (end_at_turn i) (out_at i) ++ written (packet_of (fragment_of t (asked i).off (asked i).len) p) (drop (end_at_turn i) (out_at i)) ≡ out_at (i + 1)
+    out_more i h =
+        let pk = packet_of (fragment_of t (asked i).off (asked i).len) p in
+        let more : packets_of t (take (i + 1) rs) p ≡ packets_of t (take i rs) p ++ pk =
+        ap (λ (l : List BlockRequest). packets_of t l p) (taken_more i h) ∙ packets_snoc t (take i rs) (asked i) p in
+        written_then (packets_of t (take i rs) p) pk o (end_at_turn i) (packets_length t (take i rs) p) ∙ ap (λ (l : List ℕ). written l o) (sym more)
+
+    -- .. and the ends
+    pub ends_more : (i : ℕ) → i < length rs → set (ends_at i) i (end_at_turn i + size_for (length p) (asked i)) ≡ ends_at (i + 1)
+    ends_more i h =
+        let n = length p in
+        let v = end_at_turn i + size_for n (asked i) in
+        let at : length (ends_from n 0 (take i rs)) ≡ i = taken i (omega arith) in
+        let more : ends_from n 0 (take (i + 1) rs) ≡ ends_from n 0 (take i rs) ++ (v ∷ []) =
+        ap (ends_from n 0) (taken_more i h) ∙ ends_snoc n 0 (take i rs) (asked i) ∙ simp zero-add in
+        ap (λ (k : ℕ). set (ends_at i) k v) (sym at)
+        ∙ written_more (ends_from n 0 (take i rs)) e v (omega (arith, at, fits.places_for))
+        ∙ ap (λ (l : List ℕ). written l e) (sym more)
+
+    -- What `put` leaves in turn i, where it found what stands after i turns, is what stands after i + 1.
+    pub turn_more : (i at : ℕ) (b f : List ℕ) (end : ℕ) (b' f' : List ℕ) → i < length rs → at ≡ end_at_turn i → b ≡ out_at i → f ≡ ends_at i
+        → Put t (asked i) i at p b f end b' f' → (end ≡ end_at_turn (i + 1)) × (b' ≡ out_at (i + 1)) × (f' ≡ ends_at (i + 1))
+    turn_more i at b f end b' f' h ea eb ef put =
+        let pk = packet_of (fragment_of t (asked i).off (asked i).len) p in
+        let n : ℕ = size_for (length p) (asked i) in (
+          put.is_end ∙ ap (λ (a : ℕ). a + n) ea ∙ end_more i h,
+          put.output ∙ ap₂ (λ (a : ℕ) (d : List ℕ). take a d ++ written pk (drop a d)) ea eb ∙ out_more i h,
+          put.ends ∙ ap₂ (λ (d : List ℕ) (a : ℕ). set d i (a + n)) ef ea ∙ ends_more i h,
+        )
+
+    -- .. and it asks no more than holds there.
+    pub turn_allowed : (i at : ℕ) (b f : List ℕ) → i < length rs → at ≡ end_at_turn i → length b ≡ length o → length f ≡ length e
+        → PutAsks (asked i) i at (length p) (length b) (length f)
+    turn_allowed i at b f h ea eb ef = rw (ea, eb, ef) (turn_asks i h)
+
+    -- after the last
+    pub at_last : (i : ℕ) → i ≡ length rs → (out_at i ≡ written (packets_of t rs p) o) × (ends_at i ≡ written (ends_from (length p) 0 rs) e)
+    at_last i is =
+        let all : take i rs ≡ rs = ap (λ (k : ℕ). take k rs) is ∙ take-length rs in
+        (rw all refl, rw all refl)
+
+-- ---- the call
+
+module _ (t : Template) (rs : List BlockRequest) (p o e : List ℕ) where
+  -- where it is accepted, the packets and their ends were put
+  pub all_put : (k : ℕ) (o' e' : List ℕ) → gives_all k ≡ fragments_answer rs (length p) (length o) (length e)
+      → (o' ≡ written (packets_of t rs p) o) × (e' ≡ written (ends_from (length p) 0 rs) e) → Fragmented t rs p o e (Ok k) o' e'
+  all_put k o' e' g put =
+      record {
+        answer = g;
+        after =
+            ap₂ (λ (x y : List ℕ). (x, y)) put.0 put.1
+            ∙ ap (λ (a : ListAnswer ℕ). (leaves (plainly a) (packets_of t rs p) o, leaves (plainly a) (ends_from (length p) 0 rs) e)) g;
+      }
+
+  -- where it is refused, nothing is written
+  pub none_put : (r : Result ℕ ListRefusal) (x : ListRefusal) → r ≡ Err x → list_says {A = ℕ} (Err x) ≡ fragments_answer rs (length p) (length o) (length e)
+      → Fragmented t rs p o e r o e
+  none_put r x is g =
+      let same : (a : List ℕ) (b : List ℕ) → leaves (plainly (fragments_answer rs (length p) (length o) (length e))) a b ≡ b = λ a b. refused_keeps _ x a b g in
+      record {
+        answer = ap (λ (y : Result ℕ ListRefusal). list_says y) is ∙ g;
+        after = ap₂ (λ (x y : List ℕ). (x, y)) (sym (same (packets_of t rs p) o)) (sym (same (ends_from (length p) 0 rs) e));
+      }

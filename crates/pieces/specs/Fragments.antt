@@ -1,19 +1,13 @@
 -- Document 02, T-01: "Take one payload, one header template and a lent list of requests, each with offset and length, and write the packets end
 -- to end with the end of each reported."
-use Rattle.std.specs.Prelude.{ℕ, suc, ◌+◌, ◌||◌, cond, List, [], ◌∷◌, ◌++◌, length, ltb}
-use Rattle.pkt.specs.Answers.{ListAnswer, refused_whole, refused_at, gives_all, plainly, most_ip}
+use Rattle.std.specs.Prelude.{ℕ, suc, ◌+◌, ◌||◌, cond, List, [], ◌∷◌, ◌++◌, length, ltb, Result}
+use Rattle.pkt.specs.Answers.{ListAnswer, refused_whole, refused_at, gives_all, list_says, plainly, most_ip}
 use Rattle.pkt.specs.Written.{leaves, Promise}
+use Rattle.pkt.specs.declared.refusal.ListRefusal.{ListRefusal}
 use Rattle.ezpkt.specs.Build.{packet_of, fragment_size, is_bad_offset}
 use Rattle.ezpkt.specs.Ip4.{fragment_of}
 use Rattle.ezpkt.specs.declared.ip4.Template.{Template}
 use Rattle.pieces.specs.declared.BlockRequest.{BlockRequest}
-use Rattle.pieces.specs.declared.Pieces.{Pieces}
-use Rattle.pieces.specs.declared.Pieces.TheVariants.{Written, Refused, RefusedAt}
-
-abbrev pub pieces_says : Pieces → ListAnswer ℕ
-pieces_says (Written n) = gives_all n
-pieces_says (Refused n) = refused_whole n
-pieces_says (RefusedAt n i) = refused_at n i
 
 -- "the packets end to end", in list order
 unfoldable pub packets_of : Template → List BlockRequest → List ℕ → List ℕ
@@ -50,7 +44,7 @@ fragments_answer rs n room places =
 
 -- The call's whole promise: the one answer; the output with the packets at its start, and the list of ends with the packets' at its start. "If
 -- any request would be refused, the whole call is refused and nothing is written."
-abbrev pub Fragmented : Template → List BlockRequest → List ℕ → List ℕ → List ℕ → Pieces → List ℕ → List ℕ → Type 0
+abbrev pub Fragmented : Template → List BlockRequest → List ℕ → List ℕ → List ℕ → Result ℕ ListRefusal → List ℕ → List ℕ → Type 0
 Fragmented t rs p o e r o' e' =
     let a : ListAnswer ℕ = fragments_answer rs (length p) (length o) (length e) in
-    Promise {B = List ℕ × List ℕ} pieces_says a (leaves (plainly a) (packets_of t rs p) o, leaves (plainly a) (ends_from (length p) 0 rs) e) r (o', e')
+    Promise {B = List ℕ × List ℕ} list_says a (leaves (plainly a) (packets_of t rs p) o, leaves (plainly a) (ends_from (length p) 0 rs) e) r (o', e')

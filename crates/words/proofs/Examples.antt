@@ -1,9 +1,9 @@
 use mathlib.Core.Path.{refl}
-use Rattle.words.specs.Words.{all_digits, is_plain, value_from, is_number, before, behind, is_address, address_of}
+use Rattle.words.specs.Words.{all_digits, is_plain, value_from, is_number, is_address, address_of}
 use Rattle.words.specs.Examples.{WordsTold}
 
 pub words_told : WordsTold
-unfolding all_digits is_plain value_from is_number before behind is_address address_of
+unfolding all_digits is_plain value_from is_number is_address address_of
 words_told =
     record {
       car_told = refl;

@@ -2,16 +2,13 @@
 use mathlib.Core.Path.{◌≡◌, refl, sym, ap, ◌∙◌}
 use mathlib.Core.Bool.{Bool, true, false, ◌&&◌, cond}
 use mathlib.Core.List.{List}
+use Rattle.std.specs.Prelude.{Option, Some, None}
 use Prim.Native.Nat.{ℕ, ◌≤◌, ◌<◌}
 use native.Mathlib.Omega.{arith}
 use lib.Dec.{leb}
 use borrow.Author.Tests.{le-leb, lt-leb, leb-true}
 use Rattle.pkt.proofs.Choice.{and_both}
 use Rattle.ezpkt.specs.declared.SocketAddrV4.{SocketAddrV4}
-use Rattle.words.specs.declared.Number.{Number}
-use Rattle.words.specs.declared.Number.TheVariants as number
-use Rattle.words.specs.declared.Address.{Address}
-use Rattle.words.specs.declared.Address.TheVariants as address
 use Rattle.words.specs.Words.{all_digits, is_plain, value_of, is_number, number_in, is_address, address_of, address_in}
 use Rattle.words.specs.Steps.{digits_in}
 
@@ -22,45 +19,45 @@ and_fails false = refl
 
 -- ---- a number
 
--- a choice that is a number, and one that is none
-is_number_lem : (b : Bool) (v n : ℕ) → number.Is n ≡ cond b (number.Is v) number.Wrong → (b ≡ true) × (n ≡ v)
-is_number_lem true v n e = (refl, cc)
-is_number_lem false v n e = let z : ◌≡◌ {A = ℕ} 0 1 = cc in absurd (omega arith)
+-- a choice that is some value, and one that is none
+is_some_lem : {A : Type 0} (b : Bool) (v n : A) → Some n ≡ cond b (Some v) None → (b ≡ true) × (n ≡ v)
+is_some_lem true v n e = (refl, cc)
+is_some_lem false v n e = absurd cc
 
-no_number_lem : (b : Bool) (v : ℕ) → number.Wrong ≡ cond b (number.Is v) number.Wrong → b ≡ false
-no_number_lem true v e = let z : ◌≡◌ {A = ℕ} 0 1 = cc in absurd (omega arith)
-no_number_lem false v e = refl
+is_none_lem : {A : Type 0} (b : Bool) (v : A) → None ≡ cond b (Some v) None → b ≡ false
+is_none_lem true v e = absurd cc
+is_none_lem false v e = refl
 
 module _ (least most : ℕ) (w : List ℕ) where
-  pub not_plain : is_plain w ≡ false → number.Wrong ≡ number_in least most w
+  pub not_plain : is_plain w ≡ false → None ≡ number_in least most w
   unfolding is_number
   not_plain e = simp e
 
-  module _ (r : Number) (plain : is_plain w ≡ true) (d : r ≡ digits_in most 0 w) where
-    pub not_digits : r ≡ number.Wrong → number.Wrong ≡ number_in least most w
+  module _ (r : Option ℕ) (plain : is_plain w ≡ true) (d : r ≡ digits_in most 0 w) where
+    pub not_digits : r ≡ None → None ≡ number_in least most w
     unfolding is_number digits_in
-    not_digits e = go (all_digits w) (leb (value_of w) most) (leb least (value_of w)) (no_number_lem (all_digits w && leb (value_of w) most) (value_of w) (sym e ∙ d))
+    not_digits e = go (all_digits w) (leb (value_of w) most) (leb least (value_of w)) (is_none_lem (all_digits w && leb (value_of w) most) (value_of w) (sym e ∙ d))
       where
-        go : (a m l : Bool) → (a && m) ≡ false → number.Wrong ≡ cond (is_plain w && a && l && m) (number.Is (value_of w)) number.Wrong
+        go : (a m l : Bool) → (a && m) ≡ false → None ≡ cond (is_plain w && a && l && m) (Some (value_of w)) None
         go true true l f = let z : ◌≡◌ {A = ℕ} 0 1 = cc in absurd (omega arith)
         go true false true f = simp plain
         go true false false f = simp plain
         go false m l f = simp plain
 
-    module _ (n : ℕ) (e : r ≡ number.Is n) where
-      pub too_small : n < least → number.Wrong ≡ number_in least most w
+    module _ (n : ℕ) (e : r ≡ Some n) where
+      pub too_small : n < least → None ≡ number_in least most w
       unfolding is_number digits_in
       too_small h =
-          let t = is_number_lem (all_digits w && leb (value_of w) most) (value_of w) n (sym e ∙ d) in
+          let t = is_some_lem (all_digits w && leb (value_of w) most) (value_of w) n (sym e ∙ d) in
           let a = and_both (all_digits w) (leb (value_of w) most) t.0 in
           simp (plain, a.0, lt-leb least (value_of w) (omega (arith, t.1)))
 
-      pub number_read : least ≤ n → number.Is n ≡ number_in least most w
+      pub number_read : least ≤ n → Some n ≡ number_in least most w
       unfolding is_number digits_in
       number_read h =
-          let t = is_number_lem (all_digits w && leb (value_of w) most) (value_of w) n (sym e ∙ d) in
+          let t = is_some_lem (all_digits w && leb (value_of w) most) (value_of w) n (sym e ∙ d) in
           let a = and_both (all_digits w) (leb (value_of w) most) t.0 in
-          simp (plain, a.0, a.1, le-leb least (value_of w) (omega (arith, t.1))) (ap number.Is t.1)
+          simp (plain, a.0, a.1, le-leb least (value_of w) (omega (arith, t.1))) (ap Some t.1)
 
 pub number_bounds : (least most : ℕ) (w : List ℕ) → is_number least most w ≡ true → (least ≤ value_of w) × (value_of w ≤ most)
 unfolding is_number
@@ -70,29 +67,21 @@ number_bounds least most w e =
     (leb-true least (value_of w) b.1, leb-true (value_of w) most a.1)
 
 -- what an answer tells
-module _ (least most : ℕ) (w : List ℕ) (r : Number) (d : r ≡ number_in least most w) where
-  pub number_wrong : r ≡ number.Wrong → is_number least most w ≡ false
-  number_wrong e = no_number_lem (is_number least most w) (value_of w) (sym e ∙ d)
+module _ (least most : ℕ) (w : List ℕ) (r : Option ℕ) (d : r ≡ number_in least most w) where
+  pub number_wrong : r ≡ None → is_number least most w ≡ false
+  number_wrong e = is_none_lem (is_number least most w) (value_of w) (sym e ∙ d)
 
-  pub number_good : (n : ℕ) → r ≡ number.Is n → (is_number least most w ≡ true) × (n ≡ value_of w)
-  number_good n e = is_number_lem (is_number least most w) (value_of w) n (sym e ∙ d)
+  pub number_good : (n : ℕ) → r ≡ Some n → (is_number least most w ≡ true) × (n ≡ value_of w)
+  number_good n e = is_some_lem (is_number least most w) (value_of w) n (sym e ∙ d)
 
-  pub number_most : (n : ℕ) → r ≡ number.Is n → n ≤ most
+  pub number_most : (n : ℕ) → r ≡ Some n → n ≤ most
   number_most n e = let g = number_good n e in omega (arith, g.1, number_bounds least most w g.0)
 
 -- ---- an address
 
-is_address_lem : (b : Bool) (v n : SocketAddrV4) → address.Is n ≡ cond b (address.Is v) address.Wrong → (b ≡ true) × (n ≡ v)
-is_address_lem true v n e = (refl, cc)
-is_address_lem false v n e = let z : ◌≡◌ {A = ℕ} 0 1 = cc in absurd (omega arith)
+module _ (w : List ℕ) (r : Option SocketAddrV4) (d : r ≡ address_in w) where
+  pub address_wrong : r ≡ None → is_address w ≡ false
+  address_wrong e = is_none_lem (is_address w) (address_of w) (sym e ∙ d)
 
-no_address : (b : Bool) (v : SocketAddrV4) → address.Wrong ≡ cond b (address.Is v) address.Wrong → b ≡ false
-no_address true v e = let z : ◌≡◌ {A = ℕ} 0 1 = cc in absurd (omega arith)
-no_address false v e = refl
-
-module _ (w : List ℕ) (r : Address) (d : r ≡ address_in w) where
-  pub address_wrong : r ≡ address.Wrong → is_address w ≡ false
-  address_wrong e = no_address (is_address w) (address_of w) (sym e ∙ d)
-
-  pub address_good : (a : SocketAddrV4) → r ≡ address.Is a → (is_address w ≡ true) × (a ≡ address_of w)
-  address_good a e = is_address_lem (is_address w) (address_of w) a (sym e ∙ d)
+  pub address_good : (a : SocketAddrV4) → r ≡ Some a → (is_address w ≡ true) × (a ≡ address_of w)
+  address_good a e = is_some_lem (is_address w) (address_of w) a (sym e ∙ d)

@@ -1,10 +1,7 @@
 -- Numbers and addresses as a program's words.
-use Rattle.std.specs.Prelude.{ℕ, ◌+◌, ◌-◌, ◌*◌, Bool, true, false, ◌&&◌, cond, not, List, [], ◌∷◌, leb, eqb}
+use Rattle.std.specs.Prelude.{ℕ, ◌+◌, ◌-◌, ◌*◌, Bool, true, false, ◌&&◌, cond, not, Option, Some, None, List, [], ◌∷◌, leb, eqb}
+use Rattle.std.specs.List.{before_first, after_first}
 use Rattle.ezpkt.specs.declared.SocketAddrV4.{SocketAddrV4}
-use Rattle.words.specs.declared.Number.{Number}
-use Rattle.words.specs.declared.Number.TheVariants as number
-use Rattle.words.specs.declared.Address.{Address}
-use Rattle.words.specs.declared.Address.TheVariants as address
 
 -- a text of digits alone, `0` to `9`
 unfoldable pub all_digits : List ℕ → Bool
@@ -29,17 +26,15 @@ value_of w = value_from 0 w
 unfoldable pub is_number : ℕ → ℕ → List ℕ → Bool
 is_number least most w = is_plain w && all_digits w && leb least (value_of w) && leb (value_of w) most
 
-abbrev pub number_in : ℕ → ℕ → List ℕ → Number
-number_in least most w = cond (is_number least most w) (number.Is (value_of w)) number.Wrong
+abbrev pub number_in : ℕ → ℕ → List ℕ → Option ℕ
+number_in least most w = cond (is_number least most w) (Some (value_of w)) None
 
 -- the text before the first s, which is all of it where there is none; and the text behind that s, or nothing
-unfoldable pub before : ℕ → List ℕ → List ℕ
-before s [] = []
-before s (c ∷ cs) = cond (eqb c s) [] (c ∷ before s cs)
+abbrev pub before : ℕ → List ℕ → List ℕ
+before s w = before_first (λ c. eqb c s) w
 
-unfoldable pub behind : ℕ → List ℕ → List ℕ
-behind s [] = []
-behind s (c ∷ cs) = cond (eqb c s) cs (behind s cs)
+abbrev pub behind : ℕ → List ℕ → List ℕ
+behind s w = after_first (λ c. eqb c s) w
 
 -- four numbers up to 255, and a port
 abbrev pub are_parts : List ℕ → List ℕ → List ℕ → List ℕ → List ℕ → Bool
@@ -48,8 +43,8 @@ are_parts a b c d p = is_number 0 255 a && is_number 0 255 b && is_number 0 255 
 abbrev pub parts_of : List ℕ → List ℕ → List ℕ → List ℕ → List ℕ → SocketAddrV4
 parts_of a b c d p = record { ip = ((value_of a * 256 + value_of b) * 256 + value_of c) * 256 + value_of d; port = value_of p }
 
-abbrev pub parts_in : List ℕ → List ℕ → List ℕ → List ℕ → List ℕ → Address
-parts_in a b c d p = cond (are_parts a b c d p) (address.Is (parts_of a b c d p)) address.Wrong
+abbrev pub parts_in : List ℕ → List ℕ → List ℕ → List ℕ → List ℕ → Option SocketAddrV4
+parts_in a b c d p = cond (are_parts a b c d p) (Some (parts_of a b c d p)) None
 
 -- An address's text: those with a dot behind each of the first three, and a colon before the port.
 abbrev pub dot : ℕ
@@ -72,5 +67,5 @@ is_address w = in_parts are_parts w
 unfoldable pub address_of : List ℕ → SocketAddrV4
 address_of w = in_parts parts_of w
 
-abbrev pub address_in : List ℕ → Address
-address_in w = cond (is_address w) (address.Is (address_of w)) address.Wrong
+abbrev pub address_in : List ℕ → Option SocketAddrV4
+address_in w = cond (is_address w) (Some (address_of w)) None

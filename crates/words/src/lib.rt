@@ -1,48 +1,30 @@
 // Numbers and addresses as a program's words: what they stand for, or that they are wrong.
 #![tactic(auto)]
 
-ghost use Rattle.std.specs.Prelude.{◌≡◌, ◌+◌, ◌*◌, ◌≤◌};
+ghost use Rattle.std.specs.Prelude.{◌≡◌, ◌+◌, ◌*◌, ◌≤◌, length};
 ghost use Rattle.words.specs.Words.{is_plain, number_in, before, behind, parts_in, address_in};
-ghost use Rattle.words.specs.Steps.{digits_in, Found};
+ghost use Rattle.words.specs.Steps.{digits_in, place_of};
 
 use ezpkt::{SocketAddrV4, part};
 
 // The bytes of the longest good word, 255.255.255.255:65535.
 pub const LONGEST: usize = 21;
 
-// The number that a word is, or that it is none.
-#[derive(Clone, Copy, Drop)]
-pub enum Number {
-    Is(u16),
-    Wrong,
-}
-
-// The address and the port that a word is, or that it is none.
-#[derive(Clone, Copy, Drop)]
-pub enum Address {
-    Is(SocketAddrV4),
-    Wrong,
-}
-
 // Digits, up to a number.
-fn digits(w: &[u8], most: u16) -> Number
+fn digits(w: &[u8], most: u16) -> Option<u16>
     ensures { result ≡ digits_in most 0 w.now }
 {
     let mut value: u32 = 0;
-    for i in 0..w.len() {
-        let c = w[i];
-        if c < b'0' {
-            return Number::Wrong;
+    for c in w {
+        if !c.is_ascii_digit() {
+            return None;
         }
-        if c > b'9' {
-            return Number::Wrong;
-        }
-        value = 10 * value + (c - b'0') as u32;
-        if value > most as u32 {
-            return Number::Wrong;
+        value = 10 * value + u32::from(*c - b'0');
+        if value > u32::from(most) {
+            return None;
         }
     }
-    Number::Is(value as u16)
+    Some(value as u16)
 }
 
 // Whether there is a byte, and no 0 before another.
@@ -58,31 +40,25 @@ fn is_plain(w: &[u8]) -> bool
 
 // A number from least to most, in decimal. It has no 0 before another digit: other programs read 010 as the octal number 8, and a number has one
 // text so, of at most five digits.
-pub fn read_number(w: &[u8], least: u16, most: u16) -> Number
+pub fn read_number(w: &[u8], least: u16, most: u16) -> Option<u16>
     ensures { result ≡ number_in least most w.now }
 {
     if !is_plain(w) {
-        return Number::Wrong;
+        return None;
     }
-    let Number::Is(n) = digits(w, most) else {
-        return Number::Wrong;
-    };
+    let n = digits(w, most)?;
     if n < least {
-        return Number::Wrong;
+        return None;
     }
-    Number::Is(n)
+    Some(n)
 }
 
 // Where the first s is, or the length where there is none.
 fn find(w: &[u8], s: u8) -> usize
-    ensures { Found s w.now result }
+    ensures place { result ≡ place_of s w.now }
+    ensures within { result ≤ length w.now }
 {
-    for i in 0..w.len() {
-        if w[i] == s {
-            return i;
-        }
-    }
-    w.len()
+    w.iter().position(|c| *c == s).unwrap_or(w.len())
 }
 
 fn text_before(w: &[u8], s: u8) -> &[u8]
@@ -101,34 +77,24 @@ fn ip_of(a: u16, b: u16, c: u16, d: u16) -> u32
     requires { (a ≤ 255) × (b ≤ 255) × (c ≤ 255) × (d ≤ 255) }
     ensures { result ≡ ((a * 256 + b) * 256 + c) * 256 + d }
 {
-    ((a as u32 * 256 + b as u32) * 256 + c as u32) * 256 + d as u32
+    u32::from_be_bytes([a as u8, b as u8, c as u8, d as u8])
 }
 
 // An address of these parts.
-fn read_parts(a: &[u8], b: &[u8], c: &[u8], d: &[u8], port: &[u8]) -> Address
+fn read_parts(a: &[u8], b: &[u8], c: &[u8], d: &[u8], port: &[u8]) -> Option<SocketAddrV4>
     ensures { result ≡ parts_in a.now b.now c.now d.now port.now }
 {
-    let Number::Is(a) = read_number(a, 0, 255) else {
-        return Address::Wrong;
-    };
-    let Number::Is(b) = read_number(b, 0, 255) else {
-        return Address::Wrong;
-    };
-    let Number::Is(c) = read_number(c, 0, 255) else {
-        return Address::Wrong;
-    };
-    let Number::Is(d) = read_number(d, 0, 255) else {
-        return Address::Wrong;
-    };
-    let Number::Is(port) = read_number(port, 0, 65535) else {
-        return Address::Wrong;
-    };
+    let a = read_number(a, 0, 255)?;
+    let b = read_number(b, 0, 255)?;
+    let c = read_number(c, 0, 255)?;
+    let d = read_number(d, 0, 255)?;
+    let port = read_number(port, 0, 65535)?;
     let ip = ip_of(a, b, c, d);
-    Address::Is(SocketAddrV4 { ip, port })
+    Some(SocketAddrV4 { ip, port })
 }
 
 // An address and a port, as 10.0.0.1:5000.
-pub fn read_address(w: &[u8]) -> Address
+pub fn read_address(w: &[u8]) -> Option<SocketAddrV4>
     ensures { result ≡ address_in w.now }
 {
     let w2 = text_behind(w, b'.');

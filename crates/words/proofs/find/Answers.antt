@@ -1,16 +1,17 @@
--- No byte that was passed is s.
-use borrow.Author.Rules.{rules}
-use Rattle.words.proofs.Texts.{passed_none, passed_on, found_here, found_none_lem}
+use Rattle.std.proofs.Common.{◌≡◌, ℕ, Option, ap, ◌∙◌, rules, length, eqb}
+use borrow.Author.Tests.{tests}
+use Rattle.std.proofs.lemmas.Iterator.{YieldsList-from_slice}
+use Rattle.std.proofs.lemmas.Iterator.Search.{position_from_yields_List}
+use Rattle.std.specs.Option.{unwrap_or}
+use Rattle.words.specs.Steps.{place_of}
+use Rattle.words.proofs.Texts.{place_or_end, place_within}
 use Rattle.words.proofs.find.Goals as goal
 
-pub loop-i-init : goal.loop-i-init
-loop-i-init c = (search rules, passed_none _ _)
-
-pub returns-then-w-i : goal.returns-then-w-i
-returns-then-w-i c = search found_here
-
-pub loop-i-preserved : goal.loop-i-preserved
-loop-i-preserved c = (search rules, search passed_on)
+found : (c : goal.After-unwrap_or) → c.unwrap_or.result ≡ place_of c.args.s c.args.w.now
+found c =
+    let a = c.args in
+    let at = position_from_yields_List (λ x. eqb x a.s) _ _ c.position.result c.position.ensures.ran (YieldsList-from_slice _ c.iter.ensures.rest) (λ x b q k. search (rules, tests)) in
+    c.unwrap_or.ensures ∙ ap (λ (o : Option ℕ). unwrap_or o (length a.w.now)) at ∙ place_or_end a.s a.w.now
 
 pub returns : goal.returns
-returns c = search found_none_lem
+returns c = record { place = found c; within = rw (found c) (place_within c.args.s c.args.w.now) }
