@@ -21,7 +21,8 @@ use Rattle.ezpkt.specs.declared.build.IpPiece.{IpPiece}
 use Rattle.ezpkt.specs.declared.build.Request.{Request}
 use Rattle.ezpkt.specs.declared.build.Request.TheVariants.{Tcp, Udp, Echo, Piece}
 use Rattle.ezpkt.proofs.Deciding.{sized_fits, datagram_fits, piece_fits}
-use Rattle.inspect.specs.Answers.{Verdict, good}
+use Rattle.inspect.specs.declared.check.Verdict.{Verdict}
+use Rattle.inspect.specs.declared.check.Verdict.TheVariants.{Good}
 use Rattle.inspect.specs.Check.{of_many, is_piece, part_answer, check_answer}
 use Rattle.inspect.specs.Encoded.{read_of}
 use Rattle.inspect.proofs.Decoding.{check_encoded}
@@ -48,19 +49,19 @@ tcp_checked : (t : TcpSegment) (p r : List ℕ) → InRange (Tcp t) → Bytes p 
 unfolding tcp_packet read_of
 tcp_checked t p r range bp few =
     let x : Parts = tcp_parts t p range few in
-    judged x r (gives good) (λ whole. tcp_good (read_of x.header) p bp whole (tcp_hdr_of t) refl)
+    judged x r (gives Good) (λ whole. tcp_good (read_of x.header) p bp whole (tcp_hdr_of t) refl)
 
 udp_checked : (u : UdpDatagram) (p r : List ℕ) → InRange (Udp u) → Bytes p → length p ≤ 65507 → check_answer (udp_packet u p ++ r) ≡ check_of (Udp u) p
 unfolding udp_packet read_of
 udp_checked u p r range bp few =
     let x : Parts = udp_parts u p range few in
-    judged x r (gives good) (λ whole. udp_good (read_of x.header) p bp whole (udp_hdr_of u (length p)) refl refl (omega arith))
+    judged x r (gives Good) (λ whole. udp_good (read_of x.header) p bp whole (udp_hdr_of u (length p)) refl refl (omega arith))
 
 echo_checked : (e : IcmpEcho) (p r : List ℕ) → InRange (Echo e) → Bytes p → length p ≤ 65507 → check_answer (echo_packet e p ++ r) ≡ check_of (Echo e) p
 unfolding echo_packet read_of
 echo_checked e p r range bp few =
     let x : Parts = echo_parts e p range few in
-    judged x r (gives good) (λ whole. echo_good (read_of x.header) p bp whole (icmp_new (echo_type e.reply)) (echo_new e.seq) refl)
+    judged x r (gives Good) (λ whole. echo_good (read_of x.header) p bp whole (icmp_new (echo_type e.reply)) (echo_new e.seq) refl)
 
 -- ---- pieces
 

@@ -6,15 +6,18 @@ use mathlib.Core.List.{List, [], ◌∷◌, ◌++◌}
 use Prim.Native.Nat.{ℕ, ◌≤◌, ◌<◌}
 use native.Mathlib.Omega.{arith}
 use lib.ListN.{length, length-append}
-use Rattle.pkt.specs.Answers.{Answer, gives}
+use Rattle.pkt.specs.Answers.{Answer, gives, says}
 use Rattle.ezpkt.specs.Ip4.{fragment_of, tail_of, datagram_of}
 use Rattle.ezpkt.specs.declared.ip4.Template.{Template}
 use Rattle.assembly.specs.declared.Rec.{Rec}
 use Rattle.assembly.specs.declared.Taken.{Taken}
-use Rattle.assembly.specs.declared.Taken.TheVariants.{Complete}
+use Rattle.std.specs.Prelude.{Result, Ok}
+use Rattle.pkt.specs.declared.refusal.Refusal.{Refusal}
+use Rattle.assembly.specs.declared.Outcome.{Outcome}
+use Rattle.assembly.specs.declared.Outcome.TheVariants.{Complete}
 use Rattle.assembly.specs.View.{view, record_of}
-use Rattle.assembly.specs.Answers.{reply, taken_says, rec_after, state_after}
-use Rattle.assembly.specs.Assembly.{State, step, complete, Outcome, is_complete, outcome}
+use Rattle.assembly.specs.Answers.{reply, rec_after, state_after}
+use Rattle.assembly.specs.Assembly.{State, step, complete, outcome}
 use Rattle.assembly.specs.Cut.{requested}
 use Rattle.assembly.specs.Calls.{capacity, map_bytes, take_answer, Takes, progress_answer, Gathered}
 use Rattle.assembly.specs.Packets.{after}
@@ -40,7 +43,7 @@ all_built t d ls all l m = let (off, len, x) = all l m in (off, len, cut_asked t
 
 module _ (t : Template) (d : List ℕ) (whole-d : Reassembles t d) (before : List (List ℕ)) (last : List ℕ) (all : AllCut t d (before ++ (last ∷ [])))
     (r : Rec) (payload map : List ℕ) (handed : Handed (template_key t) before r payload map)
-    (a : Taken) (payload' map' : List ℕ) (call : Takes capacity map_bytes (view r payload map) last a payload' map') where
+    (a : Result Taken Refusal) (payload' map' : List ℕ) (call : Takes capacity map_bytes (view r payload map) last a payload' map') where
   abbrev ls : List (List ℕ)
   ls = before ++ (last ∷ [])
 
@@ -51,17 +54,17 @@ module _ (t : Template) (d : List ℕ) (whole-d : Reassembles t d) (before : Lis
   some = simp length-append (omega arith)
 
   -- the state after the call
-  now_is : view (rec_after (taken_says a) r) payload' map' ≡ after_packets t ls
+  now_is : view (rec_after (says a) r) payload' map' ≡ after_packets t ls
   now_is = handed_is (template_key t) _ _ payload' map' (by_take before last payload map payload' map' r a handed call)
 
-  covered : (r' : Rec) → a ≡ Complete r' → Cover t d ls
+  covered : (r' : Rec) → a ≡ Ok (reply Complete r') → Cover t d ls
   covered r' is =
       let told = complete_told capacity map_bytes (view r payload map) last r' payload' map'
-      (subst (λ (x : Taken). Takes capacity map_bytes (view r payload map) last x payload' map') is call) in
-      let e : view r' payload' map' ≡ after_packets t ls = ap (λ (x : Taken). view (rec_after (taken_says x) r) payload' map') (sym is) ∙ now_is in
+      (subst (λ (x : Result Taken Refusal). Takes capacity map_bytes (view r payload map) last x payload' map') is call) in
+      let e : view r' payload' map' ≡ after_packets t ls = ap (λ (x : Result Taken Refusal). view (rec_after (says x) r) payload' map') (sym is) ∙ now_is in
       ((whole-d.complete_when ls built).0 (sym (ap complete e) ∙ told)).1
 
-  answers : Cover t d ls → (r' : Rec) × (a ≡ Complete r')
+  answers : Cover t d ls → (r' : Rec) × (a ≡ Ok (reply Complete r'))
   unfolding after
   answers c =
       let v : State = view r payload map in
@@ -69,22 +72,22 @@ module _ (t : Template) (d : List ℕ) (whole-d : Reassembles t d) (before : Lis
       let taken-so = whole-d.accepted before last off len y in
       let s : State = step (after_packets t before) (requested d off len) in
       let taken_is : after_packets t ls ≡ s = take_one_more _ before last ∙ ap (λ (x : Answer State). state_after x (after_packets t before)) taken-so in
-      let done : outcome s ≡ is_complete = (says_complete s).1 (sym (ap complete taken_is) ∙ (whole-d.complete_when ls built).1 (some, c)) in
+      let done : outcome s ≡ Complete = (says_complete s).1 (sym (ap complete taken_is) ∙ (whole-d.complete_when ls built).1 (some, c)) in
       let given : take_answer capacity map_bytes v last ≡ gives s =
       ap (λ (x : State). take_answer capacity map_bytes x last) (handed_is (template_key t) before r payload map handed) ∙ taken-so in
-      let so : Takes capacity map_bytes v last (Complete (record_of s)) s.payload s.map =
+      let so : Takes capacity map_bytes v last (Ok (reply Complete (record_of s))) s.payload s.map =
       steps_as _ (gives s) given
       (record { answer = ap (λ (o : Outcome). gives (reply o (record_of s))) (sym done); payload_is = refl; map_is = refl }) in
-      (record_of s, (steps_only (take_answer capacity map_bytes v last) v a (Complete (record_of s)) payload' s.payload map' s.map call so).0)
+      (record_of s, (steps_only (take_answer capacity map_bytes v last) v a (Ok (reply Complete (record_of s))) payload' s.payload map' s.map call so).0)
 
-  completes : ((r' : Rec) × (a ≡ Complete r')) ↔ Cover t d (before ++ (last ∷ []))
+  completes : ((r' : Rec) × (a ≡ Ok (reply Complete r'))) ↔ Cover t d (before ++ (last ∷ []))
   completes = (λ (r', is). covered r' is, answers)
 
 -- What was put together is the payload.
 holds : (t : Template) (d : List ℕ) → Reassembles t d → (r : Rec) (payload map : List ℕ) → Finished t d r payload map
     → Gathered (progress_answer capacity map_bytes (view r payload map)) payload d
 holds t d whole-d r payload map f =
-    let e = handed_is (template_key t) _ r payload map (by_take f.before f.last f.payload₀ f.map₀ payload map f.rec (Complete r) f.handed f.answered) in
+    let e = handed_is (template_key t) _ r payload map (by_take f.before f.last f.payload₀ f.map₀ payload map f.rec (Ok (reply Complete r)) f.handed f.answered) in
     subst (λ (s : State). Gathered (progress_answer capacity map_bytes s) s.payload d) (sym e)
     (whole-d.held (f.before ++ (f.last ∷ [])) (all_built t d _ f.cut)
     (sym (ap complete e) ∙ complete_told capacity map_bytes (view f.rec f.payload₀ f.map₀) f.last r payload map f.answered))

@@ -19,7 +19,7 @@ use Rattle.ezpkt.specs.Build.{echo_type, echo_packet, packet_of}
 use Rattle.ezpkt.specs.declared.build.IcmpEcho.{IcmpEcho}
 use Rattle.ezpkt.specs.declared.build.Request.TheVariants.{Echo}
 use Rattle.ezpkt.proofs.Deciding.{sized_fits}
-use Rattle.inspect.specs.Answers.{good}
+use Rattle.inspect.specs.declared.check.Verdict.TheVariants.{Good}
 use Rattle.inspect.specs.Header.{field_at}
 use Rattle.inspect.specs.Check.{unless_bad, check_answer}
 use Rattle.inspect.specs.Encoded.{read_of}
@@ -80,13 +80,13 @@ module _ (z : IcmpEcho) (p : List ℕ) (a : Asked (Echo z) p) where
     e = renewed j x d
 
     -- It is good only if the word turned,
-    only : check_answer (ip_header y.header ++ e) ≡ gives good → Turned (field_at d j 2) x
+    only : check_answer (ip_header y.header ++ e) ≡ gives Good → Turned (field_at d j 2) x
     only g =
         let v = good_uncut (ltb (length e) 8) (verifies e) (sym (check e (renewed_length j x d)) ∙ g) in
         only_turned j x d ch bytes sums (eqb-true (sum (words e)) 65535 v)
 
     -- and if it turned it is: the identification is neither 0000 nor ffff, and is left of the sum where the word is 0.
-    turned : Turned (field_at d j 2) x → check_answer (ip_header y.header ++ e) ≡ gives good
+    turned : Turned (field_at d j 2) x → check_answer (ip_header y.header ++ e) ≡ gives Good
     turned q =
         let neither = high_neither d 4 0x12 (omega (arith, size)) bytes id_high (omega arith) (omega arith) in
         let kept = sym (field_one (renewed j 0 d) 4) ∙ turned_keeps d 4 1 j x 0 (omega arith) refl ch.even neither q ∙ id_high in

@@ -13,10 +13,14 @@ use Rattle.ezpkt.specs.declared.ip4.Template.{Template}
 use Rattle.assembly.specs.declared.Rec.{Rec}
 use Rattle.assembly.specs.declared.Taken.{Taken}
 use Rattle.assembly.specs.declared.step.Progress.{Progress}
+use Rattle.std.specs.Prelude.{Result, Ok}
+use Rattle.pkt.specs.declared.refusal.Refusal.{Refusal}
 use Rattle.assembly.specs.declared.step.Progress.TheVariants.{Complete}
+use Rattle.assembly.specs.declared.Outcome.{Outcome}
+use Rattle.assembly.specs.declared.Outcome.TheVariants as way
 use Rattle.assembly.specs.View.{view}
-use Rattle.assembly.specs.Assembly.{State, Outcome, is_complete, step, complete, held_bytes}
-use Rattle.assembly.specs.Answers.{Reply, reply_of, taken_says, Standing, standing, standing_of, progress_says}
+use Rattle.assembly.specs.Assembly.{State, step, complete, held_bytes}
+use Rattle.assembly.specs.Answers.{reply_of, Standing, standing, standing_of, progress_says}
 use Rattle.assembly.specs.Cut.{requested}
 use Rattle.assembly.specs.Calls.{capacity, map_bytes, take_answer, Takes, usable, progress_answer}
 use Rattle.assembly.proofs.Delivers.{says_complete, taken_usable}
@@ -53,8 +57,8 @@ module _ (t : Template) (p : List ℕ) (one : OneHeader t) (few : length p ≤ c
   stands : progress_answer capacity map_bytes s ≡ gives (standing_of s)
   stands = pick_yes _ _ ready
 
-  not_refused : (l : List ℕ) (off len : ℕ) → CutBy t p l off len → (a : Taken) (d' m' : List ℕ) → Takes capacity map_bytes s l a d' m'
-      → (x : Reply) × (taken_says a ≡ gives x)
+  not_refused : (l : List ℕ) (off len : ℕ) → CutBy t p l off len → (a : Result Taken Refusal) (d' m' : List ℕ) → Takes capacity map_bytes s l a d' m'
+      → (x : Taken) × (says a ≡ gives x)
   not_refused l off len by a d' m' x =
       let e : take_answer capacity map_bytes s l ≡ gives (step (after_packets t ls) (requested p off len)) =
       ap (λ (u : State). take_answer capacity map_bytes u l) state_is ∙ calls.assembles.accepted ls l off len (calls.pieces l off len by)
@@ -68,12 +72,12 @@ module _ (t : Template) (p : List ℕ) (one : OneHeader t) (few : length p ≤ c
       (λ h. w.0 (sym e ∙ h), λ h. e ∙ w.1 h)
 
   -- `progress` answers complete exactly if the state is.
-  told : (a : Progress) → progress_says a ≡ progress_answer capacity map_bytes s → ((n : ℕ) × (a ≡ Complete n)) ↔ (complete s ≡ true)
+  told : (a : Result Progress Refusal) → progress_says a ≡ progress_answer capacity map_bytes s → ((n : ℕ) × (a ≡ Ok (Complete n))) ↔ (complete s ≡ true)
   told a e = (
     λ x. (says_complete s).0 (sym (ap (λ (x : Standing). x.answer) (given_same (sym (ap progress_says x.1) ∙ e ∙ stands)))),
     λ h. (
       length (held_bytes s),
-      progress_only a (Complete (length (held_bytes s))) (progress_answer capacity map_bytes s) e
+      progress_only a (Ok (Complete (length (held_bytes s)))) (progress_answer capacity map_bytes s) e
           (sym (stands ∙ ap (λ (o : Outcome). gives (standing o (length (held_bytes s)))) ((says_complete s).1 h))),
     ),
   )
@@ -87,9 +91,9 @@ module _ (t : Template) (p : List ℕ) (one : OneHeader t) (few : length p ≤ c
         complete_when = λ a e. let x = told a e in (λ h. whole_when.0 (x.0 h), λ h. x.1 (whole_when.1 h));
         holds =
             λ n e.
-            let c : complete s ≡ true = (told (Complete n) e).0 (n, refl) in
+            let c : complete s ≡ true = (told (Ok (Complete n)) e).0 (n, refl) in
             let g = calls.assembles.held ls built (sym (ap complete state_is) ∙ c) in
-            let same : progress_says (Complete n) ≡ gives (standing is_complete (length p)) = e ∙ ap (progress_answer capacity map_bytes) state_is ∙ g.told in
+            let same : progress_says (Ok (Complete n)) ≡ gives (standing way.Complete (length p)) = e ∙ ap (progress_answer capacity map_bytes) state_is ∙ g.told in
             let size : n ≡ length p = ap (λ (x : Standing). x.bytes) (given_same same) in
             (size, ap (λ (k : ℕ). take k d) size ∙ ap (λ (u : State). take (length p) u.payload) state_is ∙ g.bytes);
       }
@@ -108,7 +112,7 @@ some_of (p ∷ ps) ls h each = go ls (each p (Memᴰ.head refl))
 -- All pieces of a list that covers the payload, in any order and with any repeats: complete, and the payload is held.
 pub all_handed : (t : Template) (p : List ℕ) → OneHeader t → length p ≤ capacity → (ps ls : List (List ℕ)) → 0 < length ps → AllCut t p ps → Cover t p ps
     → Reordered ps ls → (r : Rec) (d m : List ℕ) → Handed (template_key t) ls r d m
-    → (progress_answer capacity map_bytes (view r d m) ≡ progress_says (Complete (length p))) × (take (length p) d ≡ p)
+    → (progress_answer capacity map_bytes (view r d m) ≡ progress_says (Ok (Complete (length p)))) × (take (length p) d ≡ p)
 unfolding Cover
 all_handed t p one few ps ls some cut cover (among, each) r d m handed =
     let calls = calls_assemble t p one few in

@@ -7,10 +7,12 @@ use native.Mathlib.Omega.{arith}
 use Rattle.pkt.specs.Answers.{Answer, refused, gives, mapped}
 use Rattle.assembly.specs.declared.Key.{Key}
 use Rattle.assembly.specs.declared.Rec.{Rec}
-use Rattle.assembly.specs.declared.Taken.TheVariants.{Complete}
-use Rattle.assembly.specs.Assembly.{State, opened, complete, is_complete}
+use Rattle.std.specs.Prelude.{Ok}
+use Rattle.assembly.specs.declared.Taken.{Taken}
+use Rattle.assembly.specs.declared.Outcome.TheVariants.{Complete}
+use Rattle.assembly.specs.Assembly.{State, opened, complete}
 use Rattle.assembly.specs.View.{view, record_of}
-use Rattle.assembly.specs.Answers.{Reply, reply, reply_of, payload_after, map_after}
+use Rattle.assembly.specs.Answers.{reply, reply_of, payload_after, map_after}
 use Rattle.assembly.specs.Calls.{capacity, map_bytes, take_answer, Takes}
 use Rattle.assembly.specs.Packets.{after, take_all}
 use Rattle.assembly.proofs.Steps.{view_of, record_of_lem}
@@ -50,13 +52,13 @@ in_any_order k =
     }
 
 -- A call that answers complete leaves an assembly that is.
-pub complete_told : (C M : ℕ) (s : State) (l : List ℕ) (r : Rec) (d m : List ℕ) → Takes C M s l (Complete r) d m → complete (view r d m) ≡ true
+pub complete_told : (C M : ℕ) (s : State) (l : List ℕ) (r : Rec) (d m : List ℕ) → Takes C M s l (Ok (reply Complete r)) d m → complete (view r d m) ≡ true
 complete_told C M s l r d m x = go (take_answer C M s l) x.answer x.payload_is x.map_is
   where
-    go : (a : Answer State) → gives (reply is_complete r) ≡ mapped reply_of a → d ≡ payload_after a s.payload → m ≡ map_after a s.map
+    go : (a : Answer State) → gives (reply Complete r) ≡ mapped reply_of a → d ≡ payload_after a s.payload → m ≡ map_after a s.map
         → complete (view r d m) ≡ true
     go (gives t) e p q =
-        let z : reply is_complete r ≡ reply_of t = cc in
+        let z : reply Complete r ≡ reply_of t = cc in
         let is : view r d m ≡ t = (λ i. view (z i).rec (p i) (q i)) ∙ view_of t in
-        ap complete is ∙ (says_complete t).0 (ap (λ (y : Reply). y.answer) (sym z))
+        ap complete is ∙ (says_complete t).0 (ap (λ (y : Taken). y.answer) (sym z))
     go (refused n) e p q = let z : ◌≡◌ {A = ℕ} 0 1 = cc in absurd (omega arith)

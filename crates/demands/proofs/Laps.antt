@@ -1,4 +1,5 @@
 -- A frame's pieces, put together, are its datagram, and that is checked good.
+use Rattle.std.specs.Prelude.{Ok}
 use mathlib.Core.Path.{◌≡◌, refl, sym, ap, subst, ◌∙◌}
 use mathlib.Core.List.{List, [], append-nil}
 use Prim.Native.Nat.{ℕ, ◌+◌, ◌≤◌, ◌<◌}
@@ -9,7 +10,6 @@ use Rattle.pkt.specs.Written.{leaves}
 use Rattle.ezpkt.specs.Build.{flow_ip, packet_of, udp_packet, answer_of, Answered}
 use Rattle.ezpkt.specs.Ip4.{datagram_of, fragment_of}
 use Rattle.ezpkt.specs.declared.ip4.Template.{Template}
-use Rattle.ezpkt.specs.declared.build.Built.TheVariants.{Packet}
 use Rattle.ezpkt.specs.declared.build.Request.TheVariants.{Udp}
 use Rattle.ezpkt.proofs.Deciding.{udp_given}
 use Rattle.ezpkt.proofs.Verifying.{behind, built_packet}
@@ -20,7 +20,7 @@ use Rattle.feed.proofs.Cutting.{pieces_within, pieces_reach}
 use Rattle.feed.proofs.Fitting.{frames_fit}
 use Rattle.planner.proofs.Counting.{count_some}
 use Rattle.feed.proofs.Runs.{Left, left_accepted}
-use Rattle.inspect.specs.Answers.{good}
+use Rattle.inspect.specs.declared.check.Verdict.TheVariants.{Good}
 use Rattle.inspect.specs.Check.{check_answer}
 use Rattle.assembly.specs.declared.Rec.{Rec}
 use Rattle.assembly.specs.declared.step.Progress.TheVariants.{Complete}
@@ -105,24 +105,24 @@ module _ (f : Feed) (b s' : List ℕ) (x : FrameFed f b s') where
       ∙ behind (flow_ip f.marks 17 (28 + length b) 0 f.car.ip f.core.ip) _
 
   -- what `datagram` builds of it
-  good_again : (k : ℕ) (l : List ℕ) → k ≡ 8 + length b → l ≡ d → (o o' : List ℕ) (n : ℕ) → Answered (datagram_of t k) l o (Packet n) o' → check_answer o' ≡ gives good
+  good_again : (k : ℕ) (l : List ℕ) → k ≡ 8 + length b → l ≡ d → (o o' : List ℕ) (n : ℕ) → Answered (datagram_of t k) l o (Ok n) o' → check_answer o' ≡ gives Good
   good_again k l size is o o' n y =
       let same : l ≡ payload_in (28 + length b) s' = is ∙ sym datagram in
       let long : k ≡ length (payload_in (28 + length b) s') = size ∙ sym (ap length datagram ∙ payload_length f b) in
       datagram_good t (Udp (frame_dgram f)) b x.scratch s' (28 + length b) one (of_udp (frame_dgram f) (refl, refl, refl)) x.bytes built o o' n
-      (subst (λ (j : ℕ). Answered (datagram_of t j) (payload_in (28 + length b) s') o (Packet n) o') long
-      (subst (λ (z : List ℕ). Answered (datagram_of t k) z o (Packet n) o') same y))
+      (subst (λ (j : ℕ). Answered (datagram_of t j) (payload_in (28 + length b) s') o (Ok n) o') long
+      (subst (λ (z : List ℕ). Answered (datagram_of t k) z o (Ok n) o') same y))
 
   all : (ls : List (List ℕ)) → Reordered (frame_packets f b) ls → (r : Rec) (p m : List ℕ) → Handed (template_key t) ls r p m → Assembled f b r p m
   all ls same r p m handed =
       let many : 0 < length (frame_packets f b) = omega (arith, (frames_fit f b left.granted.good).pieces, count_some (8 + length b) f.link) in
       let g = all_handed t d one few (frame_packets f b) ls many cut cover same r p m handed in
       let size : length d ≡ 8 + length b = payload_length f b in
-      let told : progress_answer capacity map_bytes (view r p m) ≡ progress_says (Complete (8 + length b)) =
-      g.0 ∙ ap (λ (n : ℕ). progress_says (Complete n)) size in
+      let told : progress_answer capacity map_bytes (view r p m) ≡ progress_says (Ok (Complete (8 + length b))) =
+      g.0 ∙ ap (λ (n : ℕ). progress_says (Ok (Complete n))) size in
       let bytes : take (8 + length b) p ≡ d = ap (λ (n : ℕ). take n p) (sym size) ∙ g.1 in
       record {
-        complete = λ a e. progress_only a (Complete (8 + length b)) _ e (sym told);
+        complete = λ a e. progress_only a (Ok (Complete (8 + length b))) _ e (sym told);
         holds = bytes;
         checked = good_again (8 + length b) (take (8 + length b) p) refl bytes;
       }

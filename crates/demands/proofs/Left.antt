@@ -1,4 +1,5 @@
 -- What a call that builds leaves in its output, and that a piece of a payload can be had from such a call.
+use Rattle.std.specs.Prelude.{Ok}
 use mathlib.Core.Path.{◌≡◌, sym, ap, ◌∙◌}
 use mathlib.Core.List.{List, ◌++◌, append-nil}
 use Prim.Native.Nat.{ℕ, ◌*◌, ◌≤◌}
@@ -10,14 +11,13 @@ use Rattle.ezpkt.specs.Build.{fragment_size, packet_of, answer_of, Answered}
 use Rattle.ezpkt.specs.Ip4.{fragment_of}
 use Rattle.ezpkt.specs.declared.ip4.Template.{Template}
 use Rattle.ezpkt.specs.declared.build.Request.{Request}
-use Rattle.ezpkt.specs.declared.build.Built.TheVariants.{Packet}
 use Rattle.ezpkt.proofs.Deciding.{piece_given}
 use Rattle.ezpkt.proofs.Sizes.{size_is}
 use Rattle.assembly.specs.Calls.{capacity}
 use Rattle.demands.specs.Cutting.{CutBy, of_fragment}
 
 -- It is the packet, with what the output held behind it.
-pub left_by : (q : Request) (p o b : List ℕ) (n : ℕ) → Answered q p o (Packet n) b → b ≡ packet_of q p ++ drop (length (packet_of q p)) o
+pub left_by : (q : Request) (p o b : List ℕ) (n : ℕ) → Answered q p o (Ok n) b → b ≡ packet_of q p ++ drop (length (packet_of q p)) o
 unfolding written
 left_by q p o b n x = x.after ∙ ap (λ (a : Answer ℕ). leaves a (packet_of q p) o) (sym x.answer)
 

@@ -10,7 +10,6 @@ use Rattle.pcap.specs.Pcap.{Stamped, capture_bytes}
 use Rattle.pcap.specs.Runs.{AllTakable}
 use Rattle.reading.specs.Ends.{records_answer}
 use Rattle.mending.specs.Mend.{mend, changes, Counts, counts, mend_answer, Mends}
-use Rattle.mending.specs.declared.Mended.TheVariants.{Written}
 use Rattle.mending.proofs.Captures.{captures_mended}
 use Rattle.mending.proofs.Deciding.{records_then, room_given}
 use Rattle.mending.proofs.Twice.{mends_given, front_written}

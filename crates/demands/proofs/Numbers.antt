@@ -16,7 +16,7 @@ use Rattle.ezpkt.specs.declared.build.Request.{Request}
 use Rattle.ezpkt.specs.declared.build.Request.TheVariants.{Tcp, Udp, Echo, Piece}
 use Rattle.tcp4.specs.declared.TcpFlow.{TcpFlow}
 use Rattle.pieces.specs.declared.BlockRequest.{BlockRequest}
-use Rattle.inspect.specs.Answers.{good}
+use Rattle.inspect.specs.declared.check.Verdict.TheVariants.{Good}
 use Rattle.inspect.specs.Answers as inspect
 use Rattle.inspect.specs.Header.{header_of, not_ipv4, frame_answer, summed, unreserved, read_answer, data_of}
 use Rattle.inspect.specs.Check.{is_piece, is_other, tcp_cut, is_cut, whole_answer, verifies_behind_pseudo, verdict_of, check_answer, examine_answer}
@@ -30,8 +30,7 @@ use Rattle.assembly.specs.Answers.{reply_of, standing_of}
 use Rattle.assembly.specs.Carried.{key_of, same_key, broken, fit_answer, keyed_answer, head_answer, piece_of, piece_answer}
 use Rattle.assembly.specs.Calls.{sized, usable, open_answer, take_answer, ready, put_answer, stands_answer}
 use Rattle.table.specs.declared.Slot.{Slot}
-use Rattle.table.specs.declared.Found.{Found}
-use Rattle.table.specs.declared.Found.TheVariants.{At, Absent}
+use Rattle.std.specs.Prelude.{Option, Some, None}
 use Rattle.table.specs.Slots.{slot_bytes, state_at, key_from, free_from, table_fits}
 use Rattle.table.specs.Table.{opened_at, placed_at, place_for, stepped_by, piece_for, table_take, held_for, discard_answer, outing, out_answer}
 use Rattle.packet.specs.Headroom.{most_end, valid, leads}
@@ -44,7 +43,7 @@ use Rattle.pcap.specs.Pcap.{file_header}
 use Rattle.pcap.specs.Answers.{most_micros, record_answer}
 use Rattle.pcap.specs.Read.{Recorded, Records, whole, broken_after, in_front, record_at, record_size, is_broken, records_in, records_of}
 use Rattle.pcap.proofs.Pcap.{file_header_length}
-use Rattle.reading.specs.Reading.{starts_with, header_size, ended, found, spot_at, step_at}
+use Rattle.reading.specs.Reading.{starts_with, header_size, spot_at, step_at}
 use Rattle.reading.specs.Ends.{all_of, records_answer}
 use Rattle.reading.proofs.Stepping.{steps_read}
 use Rattle.ezpkt.specs.declared.SocketAddrV4.{SocketAddrV4}
@@ -157,10 +156,10 @@ module _ (ns : List ℕ) (thirteen : is_in 13 ns ≡ true) (twelve : is_in 12 ns
 module _ (ns : List ℕ) (fifteen : is_in 15 ns ≡ true) where
   verdict_in : (k : Kind) (h : IpRead) (d : List ℕ) → Among ns (verdict_of k h d)
   unfolding verdict_of
-  verdict_in kind.Tcp h d = unless ns (verifies_behind_pseudo h 6 d) 15 _ fifteen (accepted good)
-  verdict_in kind.Udp h d = unless ns (verifies_behind_pseudo h 17 d) 15 _ fifteen (accepted good)
+  verdict_in kind.Tcp h d = unless ns (verifies_behind_pseudo h 6 d) 15 _ fifteen (accepted Good)
+  verdict_in kind.Udp h d = unless ns (verifies_behind_pseudo h 17 d) 15 _ fifteen (accepted Good)
   verdict_in kind.Bare h d = accepted _
-  verdict_in kind.Icmp h d = unless ns (verifies d) 15 _ fifteen (accepted good)
+  verdict_in kind.Icmp h d = unless ns (verifies d) 15 _ fifteen (accepted Good)
 
 pub check_in : (l : List ℕ) → Among (4 ∷ 5 ∷ 6 ∷ 7 ∷ 18 ∷ 13 ∷ 12 ∷ 14 ∷ 15 ∷ []) (check_answer l)
 unfolding check_answer
@@ -218,13 +217,13 @@ stands_in ok s = unless _ ok 11 _ refl (accepted (standing_of s))
 placed_in : (ns : List ℕ) → is_in 19 ns ≡ true → (t : List Slot) (d m : List ℕ) (k : Key) → Among ns (place_for t d m k)
 placed_in ns nineteen t d m k = go (key_from 0 k t)
   where
-    opens : (e : Found) → Among ns (opened_at k e)
-    opens (At i) = accepted _
-    opens Absent = number 19 nineteen
+    opens : (e : Option ℕ) → Among ns (opened_at k e)
+    opens (Some i) = accepted _
+    opens None = number 19 nineteen
 
-    go : (f : Found) → Among ns (placed_at t d m k f)
-    go (At i) = accepted _
-    go Absent = opens (free_from 0 t)
+    go : (f : Option ℕ) → Among ns (placed_at t d m k f)
+    go (Some i) = accepted _
+    go None = opens (free_from 0 t)
 
 tabled_in : (t : List Slot) (d m l : List ℕ) → Among (11 ∷ 4 ∷ 5 ∷ 6 ∷ 7 ∷ 18 ∷ 9 ∷ 20 ∷ 19 ∷ []) (table_take t d m l)
 unfolding table_take piece_for
@@ -238,9 +237,9 @@ tabled_in t d m l =
     ns = 11 ∷ 4 ∷ 5 ∷ 6 ∷ 7 ∷ 18 ∷ 9 ∷ 20 ∷ 19 ∷ []
 
 -- the slot with the key, or 27
-found_in_lem : (ns : List ℕ) → is_in 27 ns ≡ true → (f : Found) → Among ns (held_for f)
-found_in_lem ns h (At i) = accepted i
-found_in_lem ns h Absent = number 27 h
+found_in_lem : (ns : List ℕ) → is_in 27 ns ≡ true → (f : Option ℕ) → Among ns (held_for f)
+found_in_lem ns h (Some i) = accepted i
+found_in_lem ns h None = number 27 h
 
 out_in : (t : List Slot) (d m : List ℕ) (k : Key) (room : ℕ) → Among (11 ∷ 27 ∷ 3 ∷ []) (out_answer t d m k room)
 unfolding out_answer
@@ -284,8 +283,8 @@ reported_in l es cl sv = refusing_whole _ _ _ (ltb most_packets (length es)) 26 
 step_in : (l : List ℕ) (at k : ℕ) → AmongList (23 ∷ []) (25 ∷ []) (suc k) (step_at l at k)
 step_in l at k = refusing_whole _ _ _ (ltb at header_size) 23 _ refl (go (eqb (length (drop at l)) 0) (is_broken (drop at l)))
   where
-    go : (e b : Bool) → AmongList (23 ∷ []) (25 ∷ []) (suc k) (cond e (gives_all ended) (cond b (refused_at 25 k) (gives_all (found (spot_at l at k)))))
-    go true b = accepted_all ended
+    go : (e b : Bool) → AmongList (23 ∷ []) (25 ∷ []) (suc k) (cond e (gives_all None) (cond b (refused_at 25 k) (gives_all (Some (spot_at l at k)))))
+    go true b = accepted_all None
     go false true = number_at 25 k refl (omega arith)
     go false false = accepted_all _
 

@@ -1,4 +1,6 @@
 -- What the calls that build and send leave: each packet has the length that is answered, and is checked as it is owed.
+use Rattle.ezpkt.specs.declared.icmp4.EchoSent.{EchoSent}
+use Rattle.std.specs.Prelude.{Ok}
 use mathlib.Core.Path.{◌≡◌, refl, sym, ap, subst, ◌∙◌}
 use mathlib.Core.Bool.{false}
 use mathlib.Core.List.Memᴰ
@@ -18,7 +20,6 @@ use Rattle.ezpkt.specs.Build.{packet_of, answer_of, Answered}
 use Rattle.ezpkt.specs.Icmp4 as icmp
 use Rattle.ezpkt.specs.declared.build.Request.{Request}
 use Rattle.ezpkt.specs.declared.build.Request.TheVariants.{Tcp, Echo}
-use Rattle.ezpkt.specs.declared.build.Built.TheVariants.{Packet}
 use Rattle.ezpkt.specs.declared.icmp4.IcmpFlow.{IcmpFlow}
 use Rattle.ezpkt.proofs.Verifying.{built_packet, built_total}
 use Rattle.ezpkt.proofs.Sizes.{tcp_size}
@@ -45,12 +46,12 @@ stands : (q : Request) (p o b a r : List ℕ) (i n : ℕ) → InRange q → Byte
     → b ≡ a ++ (packet_of q p ++ r) → length a ≡ i → Stands q p b i (i + n)
 unfolding field_at
 stands q p o b a r i n range bp e is at =
-    let x : Answered q p o (Packet n) (leaves (answer_of q (length p) (length o)) (packet_of q p) o) = record { answer = sym e; after = refl } in
-    let front : slice i (i + n) b ≡ packet_of q p = ap (slice i (i + n)) is ∙ between a (packet_of q p) r i n at (built_packet q p o _ (Packet n) n x refl).0 in
+    let x : Answered q p o (Ok n) (leaves (answer_of q (length p) (length o)) (packet_of q p) o) = record { answer = sym e; after = refl } in
+    let front : slice i (i + n) b ≡ packet_of q p = ap (slice i (i + n)) is ∙ between a (packet_of q p) r i n at (built_packet q p o _ (Ok n) n x refl).0 in
     let far : n ≡ i + n - i = omega arith in
     record {
       packet = front;
-      total = ap (λ (l : List ℕ). field_at l 2 2) front ∙ built_total q p o _ (Packet n) n x refl ∙ far;
+      total = ap (λ (l : List ℕ). field_at l 2 2) front ∙ built_total q p o _ (Ok n) n x refl ∙ far;
       checked = λ rest. ap (λ (l : List ℕ). check_answer (l ++ rest)) front ∙ packet_checked q p rest (length o) n range bp e;
     }
 
@@ -118,7 +119,7 @@ sent f es o b g fits ok e is =
 
 -- an echo's answer tells what building it is answered
 echo_given : (f g : IcmpFlow) (a : Answer ℕ) (n : ℕ) → gives (icmp.echo_gone g n) ≡ icmp.with_flow f a → a ≡ gives n
-echo_given f g (gives m) n e = let z : icmp.echo_gone g n ≡ icmp.echo_gone f m = cc in ap (λ (x : icmp.EchoGone). gives x.size) (sym z)
+echo_given f g (gives m) n e = let z : icmp.echo_gone g n ≡ icmp.echo_gone f m = cc in ap (λ (x : EchoSent). gives x.size) (sym z)
 echo_given f g (refused m) n e = let z : ◌≡◌ {A = ℕ} 0 1 = cc in absurd (omega arith)
 
 -- Demand 2: "headers, lengths and checksums": each call leaves packets of the lengths that it answers, and these are checked as they are owed.

@@ -12,7 +12,7 @@ use Rattle.pkt.specs.Rfc791.{ip_header}
 use Rattle.pkt.proofs.Choice.{pick_no}
 use Rattle.pkt.proofs.Deciding.{past, held}
 use Rattle.pkt.proofs.Headers.{ip_length}
-use Rattle.inspect.specs.Answers.{good}
+use Rattle.inspect.specs.declared.check.Verdict.TheVariants.{Good}
 use Rattle.inspect.specs.Header.{field_at}
 use Rattle.inspect.specs.Check.{unless_bad, part_answer, check_answer}
 use Rattle.inspect.specs.Encoded.{read_of}
@@ -23,8 +23,8 @@ use Rattle.demands.specs.Options.{Parts}
 use Rattle.demands.specs.WrongWord.{WordChange, LastChange, Turned, GoodIfTurned, LastSeen}
 
 -- Where a part that may be cut is good, its sum verified.
-pub good_uncut : (c v : Bool) → cond c (refused 14) (unless_bad v) ≡ gives good → v ≡ true
-good_uncut c v e = (held v 15 good good (past c 14 (unless_bad v) good e).1).0
+pub good_uncut : (c v : Bool) → cond c (refused 14) (unless_bad v) ≡ gives Good → v ≡ true
+good_uncut c v e = (held v 15 Good Good (past c 14 (unless_bad v) Good e).1).0
 
 -- ---- a packet: a header and its data part
 
@@ -68,7 +68,7 @@ module _ (y : Parts) where
   -- What is shown of a changed word of the part is so of the packet's.
   pub lifted : (i x : ℕ) → 20 ≤ i → WordChange packet i x
       → ((j : ℕ) → i ≡ 20 + j → WordChange y.part j x
-      → (check_answer (ip_header y.header ++ renewed j x y.part) ≡ gives good) ↔ Turned (field_at y.part j 2) x)
+      → (check_answer (ip_header y.header ++ renewed j x y.part) ≡ gives Good) ↔ Turned (field_at y.part j 2) x)
       → GoodIfTurned packet i x
   lifted i x low ch f =
       let j : ℕ = i - 20 in

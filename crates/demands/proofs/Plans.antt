@@ -13,7 +13,7 @@ use Rattle.ezpkt.specs.Build.{start_at, end_at}
 use Rattle.ezpkt.specs.declared.ip4.Template.{Template}
 use Rattle.pieces.specs.Fragments.{Fragmented}
 use Rattle.pieces.specs.declared.BlockRequest.{BlockRequest}
-use Rattle.pieces.specs.declared.Pieces.TheVariants as pieces
+use Rattle.std.specs.Prelude.{Ok}
 use Rattle.planner.specs.Plan.{Plan}
 use Rattle.planner.specs.Steps.{is_plan}
 use Rattle.planner.proofs.Places.{place_in, place_of, carried_by_lem}
@@ -42,11 +42,11 @@ covered n m rs plan j h =
     let within = place_of (start_at r.off n) (end_at r.off r.len n - start_at r.off n) j at in
     (r, among, within.0, omega (arith, within.0, within.1))
 
-listed : (t : Template) (m : ℕ) (rs : List BlockRequest) (p o e o' e' : List ℕ) (k : ℕ) → SaidYes m rs p → Fragmented t rs p o e (pieces.Written k) o' e'
+listed : (t : Template) (m : ℕ) (rs : List BlockRequest) (p o e o' e' : List ℕ) (k : ℕ) → SaidYes m rs p → Fragmented t rs p o e (Ok k) o' e'
     → Listed t rs p o' e'
 listed t m rs p o e o' e' k said call = record { output = o; places = e; size = k; call = call; none_past = (is_plan_lem m rs p said).1.none_past }
 
-cover_of : (t : Template) (m : ℕ) (rs : List BlockRequest) (p o e o' e' : List ℕ) (k : ℕ) → SaidYes m rs p → Fragmented t rs p o e (pieces.Written k) o' e'
+cover_of : (t : Template) (m : ℕ) (rs : List BlockRequest) (p o e o' e' : List ℕ) (k : ℕ) → SaidYes m rs p → Fragmented t rs p o e (Ok k) o' e'
     → Cover t p (packets_in rs o' e')
 cover_of t m rs p o e o' e' k said call =
     list_assembles.covers t p rs o' e' (listed t m rs p o e o' e' k said call) (covered (length p) m rs (is_plan_lem m rs p said).1)
@@ -64,5 +64,5 @@ plan_assembles =
           let plan = is_plan_lem m rs p said in
           let many : 0 < length (packets_in rs o' e') = omega (arith, list_assembles.as_many t rs p o' e' x, plan.1.some) in
           let g = all_handed t p one plan.0 (packets_in rs o' e') ls many (all_cut t rs p o' e' x) (cover_of t m rs p o e o' e' k said call) same r d b handed in
-          (λ a told. progress_only a (Complete (length p)) _ told (sym g.0), g.1);
+          (λ a told. progress_only a (Ok (Complete (length p))) _ told (sym g.0), g.1);
     }

@@ -5,6 +5,7 @@ use Prim.Native.Nat.{ℕ}
 use native.Mathlib.Omega.{arith}
 use lib.ListN.{length}
 use Rattle.pkt.specs.Answers.{Answer, refused, gives, mapped, ListAnswer, refused_whole, refused_at, plainly}
+use Rattle.pkt.specs.Refusal.{number_of}
 use Rattle.pkt.specs.Written.{leaves}
 use Rattle.ezpkt.specs.Build.{answer_of, packet_of, udp_packet}
 use Rattle.pcap.specs.Pcap.{records_bytes}
@@ -12,7 +13,8 @@ use Rattle.planner.specs.Cutting.{planned}
 use Rattle.planner.specs.Answers.{list_after}
 use Rattle.feed.specs.Feed.{frame_dgram, frame_records, feed_answer, written_for}
 use Rattle.exporting.specs.Export.{export_of}
-use Rattle.mending.specs.Mend.{mend, changes, Counts, rows_after}
+use Rattle.mending.specs.Mend.{mend, changes, rows_after}
+use Rattle.mending.specs.declared.Counts.{Counts}
 use Rattle.ezpkt.specs.Icmp4.{echo_gone}
 use Rattle.packet.proofs.Answers.{kept}
 use Rattle.assembly.specs.Assembly.{State, outcome}
@@ -78,29 +80,29 @@ slot_left a n t t' d m d' m' e s u v = (
 pub refused_keep : RefusedKeep
 refused_keep =
     record {
-      building = λ q p o o' n x. left _ n _ o o' x.answer x.after;
+      building = λ q p o o' n x. left _ (number_of n) _ o o' x.answer x.after;
       echoing =
           λ q f p o o' n x.
           let a = answer_of q (length p) (length o) in
-          left a n (packet_of q p) o o' (mapped_refused (echo_gone f) a n x.answer) x.after;
-      sending = λ f es o o' n x. left _ n _ o o' x.answer x.after;
-      cutting = λ t rs p o e o' e' n x. both_left _ n _ _ o e o' e' (ap plainly x.answer) x.after;
-      cutting_at = λ t rs p o e o' e' n i x. both_left _ n _ _ o e o' e' (ap plainly x.answer) x.after;
+          left a (number_of n) (packet_of q p) o o' (mapped_refused (echo_gone f) a (number_of n) x.answer) x.after;
+      sending = λ f es o o' n x. left _ (number_of n) _ o o' x.answer x.after;
+      cutting = λ t rs p o e o' e' n x. both_left _ (number_of n) _ _ o e o' e' (ap plainly x.answer) x.after;
+      cutting_at = λ t rs p o e o' e' n i x. both_left _ (number_of n) _ _ o e o' e' (ap plainly x.answer) x.after;
       opening =
           λ C M k d m d' m' n x.
           let a = open_answer C M k (length d) (length m) in
-          let e = mapped_refused record_of a n x.answer in
-          (payload_left a n d d' e x.payload_is, map_left a n m m' e x.map_is);
+          let e = mapped_refused record_of a (number_of n) x.answer in
+          (payload_left a (number_of n) d d' e x.payload_is, map_left a (number_of n) m m' e x.map_is);
       taking =
           λ C M r d m l d' m' n x.
           let a = take_answer C M (view r d m) l in
-          let e = mapped_refused reply_of a n x.answer in
-          (payload_left a n d d' e x.payload_is, map_left a n m m' e x.map_is);
+          let e = mapped_refused reply_of a (number_of n) x.answer in
+          (payload_left a (number_of n) d d' e x.payload_is, map_left a (number_of n) m m' e x.map_is);
       putting =
           λ r h d m b d' m' n x.
           let a = put_answer (view r d m) h b in
-          let e = mapped_refused reply_of a n x.answer in
-          (payload_left a n d d' e x.payload_is, map_left a n m m' e x.map_is);
+          let e = mapped_refused reply_of a (number_of n) x.answer in
+          (payload_left a (number_of n) d d' e x.payload_is, map_left a (number_of n) m m' e x.map_is);
       tabling =
           λ t d m l r d' m' n x e.
           placing_left (table_take t d m l) n t r.table d m d' m' (mapped_refused (λ y. outcome y.state) _ n (sym e ∙ x.answer)) x.slots_are
@@ -115,19 +117,19 @@ refused_keep =
           λ t d m k r d' m' n x e.
           slot_left (discard_answer t (length d) (length m) k) n t r.table d m d' m' (mapped_refused (λ i. 0) _ n (sym e ∙ x.answer)) x.slots_are
           x.payloads_are x.maps_are;
-      making = λ h b b' n x. x.after ∙ kept _ n _ b (sym x.answer);
-      appending = λ p k d b b' n x. x.after ∙ kept _ n _ b (sym x.answer);
-      prepending = λ p d b b' n x. x.after ∙ kept _ n _ b (sym x.answer);
-      copying = λ ok k d o o' n x. x.after ∙ kept _ n _ o (sym x.answer);
+      making = λ h b b' n x. x.after ∙ kept _ (number_of n) _ b (sym x.answer);
+      appending = λ p k d b b' n x. x.after ∙ kept _ (number_of n) _ b (sym x.answer);
+      prepending = λ p d b b' n x. x.after ∙ kept _ (number_of n) _ b (sym x.answer);
+      copying = λ ok k d o o' n x. x.after ∙ kept _ (number_of n) _ o (sym x.answer);
       planning = λ n m l l' k x. x.list_is ∙ ap (λ (a : Answer ℕ). list_after a (planned n m) l) (sym x.answer);
       feeding =
           λ f b sec usec s o s' o' n x.
           let a = feed_answer f.link (length b) usec (length s) (length o) in
-          let e = mapped_refused (written_for f (length b)) a n x.answer in
-          (left a n (udp_packet (frame_dgram f) b) s s' e x.scratch_is, left a n (records_bytes (frame_records f b sec usec)) o o' e x.output_is);
-      mending = λ l o o' e e' n x. rows_left _ (refused_whole n) (mend l) o o' (changes l) e e' x.answer x.after;
-      mending_at = λ l o o' e e' n k x. rows_left _ (refused_at n k) (mend l) o o' (changes l) e e' x.answer x.after;
-      exporting = λ l o o' n x. output_left _ (refused_whole n) (export_of l) o o' x.answer x.after;
-      exporting_at = λ l o o' n k x. output_left _ (refused_at n k) (export_of l) o o' x.answer x.after;
-      capturing = λ a b o o' n x. left a n b o o' x.answer x.after;
+          let e = mapped_refused (written_for f (length b)) a (number_of n) x.answer in
+          (left a (number_of n) (udp_packet (frame_dgram f) b) s s' e x.scratch_is, left a (number_of n) (records_bytes (frame_records f b sec usec)) o o' e x.output_is);
+      mending = λ l o o' e e' n x. rows_left _ (refused_whole (number_of n)) (mend l) o o' (changes l) e e' x.answer x.after;
+      mending_at = λ l o o' e e' n k x. rows_left _ (refused_at (number_of n) k) (mend l) o o' (changes l) e e' x.answer x.after;
+      exporting = λ l o o' n x. output_left _ (refused_whole (number_of n)) (export_of l) o o' x.answer x.after;
+      exporting_at = λ l o o' n k x. output_left _ (refused_at (number_of n) k) (export_of l) o o' x.answer x.after;
+      capturing = λ a b o o' n x. left a (number_of n) b o o' x.answer x.after;
     }

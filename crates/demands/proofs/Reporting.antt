@@ -18,11 +18,13 @@ use Rattle.tcp4.specs.Tcp4.{Emit, Gone, segment_of, after_one, after_all, sent_o
 use Rattle.tcp4.specs.declared.TcpFlow.{TcpFlow}
 use Rattle.tcp4.specs.declared.Sent.{Sent}
 use Rattle.tcp4.specs.declared.Sent.TheVariants as sent
-use Rattle.reporting.specs.Report.{cut_at, first_wrong, most_packets, nothing_yet, report_after, report_from, report_of, reported_says, Reports}
+use Rattle.reporting.specs.Report.{cut_at, first_wrong, most_packets, nothing_yet, report_after, report_from, report_of, Reports}
 use Rattle.reporting.specs.Packets.{class_of}
 use Rattle.reporting.specs.declared.Report.{Report}
-use Rattle.reporting.specs.declared.Reported.{Reported}
-use Rattle.reporting.specs.declared.Reported.TheVariants.{Is, Refused, RefusedAt}
+use Rattle.std.specs.Prelude.{Result, Ok, Err}
+use Rattle.pkt.specs.declared.refusal.Refusal.{Refusal}
+use Rattle.pkt.specs.declared.refusal.ListRefusal.{ListRefusal}
+use Rattle.pkt.specs.declared.refusal.ListRefusal.TheVariants.{Whole, At}
 use Rattle.reporting.proofs.Totals.{reported_is}
 use Rattle.demands.specs.Outputs.{EndToEnd, none, next}
 use Rattle.demands.specs.Reporting.{TwoEnds, Passable, CallsSend, AsSent, SentExpected}
@@ -85,11 +87,11 @@ at_start f two =
 
 -- ---- the ends of one call
 
-few_ends : (r : Sent) (g : Gone) → sent_says r ≡ gives g → length g.ends ≤ 3
+few_ends : (r : Result Sent Refusal) (g : Gone) → sent_says r ≡ gives g → length g.ends ≤ 3
 few_ends (sent.One f a) g e = let z : record { flow = f; ends = a ∷ [] } ≡ g = cc in subst (λ (x : Gone). length x.ends ≤ 3) z (omega arith)
 few_ends (sent.Two f a b) g e = let z : record { flow = f; ends = a ∷ b ∷ [] } ≡ g = cc in subst (λ (x : Gone). length x.ends ≤ 3) z (omega arith)
 few_ends (sent.Three f a b c) g e = let z : record { flow = f; ends = a ∷ b ∷ c ∷ [] } ≡ g = cc in subst (λ (x : Gone). length x.ends ≤ 3) z (omega arith)
-few_ends (sent.Refused n) g e = let z : ◌≡◌ {A = ℕ} 0 1 = cc in absurd (omega arith)
+few_ends (Err n) g e = let z : ◌≡◌ {A = ℕ} 0 1 = cc in absurd (omega arith)
 
 -- They go up, and none is past the bytes that are sent.
 right_ends : (at n : ℕ) (es : List Emit) → at + size_all es ≤ n → first_wrong at n (ends_from at es) ≡ length (ends_from at es)
@@ -115,8 +117,8 @@ same_length : (f : TcpFlow) (es : List Emit) (o b : List ℕ) (g : Gone) → sen
 same_length f es o b g e is room =
     ap length (is ∙ ap (λ (x : Answer Gone). leaves x (sent_bytes f es) o) e) ∙ written_length (sent_bytes f es) o (omega (arith, sent_length f es))
 
-not_refused : (f : TcpFlow) (es : List Emit) (o : List ℕ) (r : Sent) (b : List ℕ) (g : Gone) → Sends f es o r b → sent_says r ≡ gives g
-    → (q : Reported) → Reports b g.ends f.cl f.sv q → (x : Report) × (q ≡ Is x)
+not_refused : (f : TcpFlow) (es : List Emit) (o : List ℕ) (r : Result Sent Refusal) (b : List ℕ) (g : Gone) → Sends f es o r b → sent_says r ≡ gives g
+    → (q : Result Report ListRefusal) → Reports b g.ends f.cl f.sv q → (x : Report) × (q ≡ Ok x)
 not_refused f es o r b g x e q p =
     let given = sym x.answer ∙ e in
     let w = was_accepted f es o g given in
@@ -127,10 +129,10 @@ not_refused f es o r b g x e q p =
     let all = le-ltb (first_wrong 0 (length b) g.ends) (length g.ends) (omega (arith, right)) in
     go q _ (p ∙ pick_no _ _ few ∙ pick_no _ _ all)
   where
-    go : (q : Reported) (y : Report) → reported_says q ≡ gives_all y → (x : Report) × (q ≡ Is x)
+    go : (q : Result Report ListRefusal) (y : Report) → list_says q ≡ gives_all y → (x : Report) × (q ≡ Ok x)
     go (Is x) y h = (x, refl)
-    go (Refused n) y h = let z : ◌≡◌ {A = ℕ} 0 1 = cc in absurd (omega arith)
-    go (RefusedAt n i) y h = let z : ◌≡◌ {A = ℕ} 0 1 = cc in absurd (omega arith)
+    go (Err (Whole n)) y h = let z : ◌≡◌ {A = ℕ} 0 1 = cc in absurd (omega arith)
+    go (Err (At n i)) y h = let z : ◌≡◌ {A = ℕ} 0 1 = cc in absurd (omega arith)
 
 -- What the calls of a flow send is reported as sent, and all of it as expected.
 pub sent_expected : SentExpected

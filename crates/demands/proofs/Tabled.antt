@@ -23,7 +23,7 @@ use Rattle.table.specs.declared.Slot.{Slot}
 use Rattle.table.specs.declared.Placed.{Placed}
 use Rattle.table.specs.declared.TakenOut.{TakenOut}
 use Rattle.table.specs.Slots.{slot_bytes, slot_map}
-use Rattle.table.specs.Table.{stepped_says, table_take, Tables, out_says, TakesOut}
+use Rattle.table.specs.Table.{table_take, Tables, TakesOut}
 use Rattle.table.specs.Mixed.{Keyed, keyed_in, pieces_of, AtMostEight, HandedTo, assembly_of, led_to, Carried}
 use Rattle.table.proofs.Carries.{own_pieces, piece_keyed, keyed_piece_lem, carried_by_lem}
 use Rattle.table.proofs.Held.{Held}
@@ -72,13 +72,13 @@ module _ (t : Template) (p : List ℕ) (one : OneHeader t) (few : length p ≤ s
 
   -- ---- handing in one more
   one_more : (l : List ℕ) (off len : ℕ) → CutBy t p l off len → AtMostEight (ls ++ (l ∷ [])) → (a : Placed) (d' m' : List ℕ)
-      → Tables (table_take s d m l) s d m a d' m' → (x : Outcome) × (stepped_says a.answer ≡ gives x)
+      → Tables (table_take s d m l) s d m a d' m' → (x : Outcome) × (says a.answer ≡ gives x)
   one_more l off len c more a d' m' call = go (went s d m l h.sound a d' m' call)
     where
       carried : (x : Keyed) × (keyed_in l ≡ gives x) × (x.key ≡ template_key t) × (x.piece ≡ requested p off len)
       carried = piece_keyed (template_key t) l _ (asked_carries slot_bytes slot_map (omega arith) (omega arith) t p one few l off len (cut_asked t p l off len c))
 
-      go : Went s d m l (stepped_says a.answer) a.table d' m' → (x : Outcome) × (stepped_says a.answer ≡ gives x)
+      go : Went s d m l (says a.answer) a.table d' m' → (x : Outcome) × (says a.answer ≡ gives x)
       go (kept n e o x y z) = let q = carried.1 in let w : ◌≡◌ {A = ℕ} 0 1 = cc in absurd (omega arith)
       go (took x u e o met sound after) = (outcome u, o)
       go (turned x e o n f y z w) = absurd (ninth ls s d m l h x more e n f)
@@ -95,7 +95,7 @@ module _ (t : Template) (p : List ℕ) (one : OneHeader t) (few : length p ≤ s
       size : n ≡ length (held_bytes alone)
       output_is : o' ≡ written (held_bytes alone) o
 
-    given : (n : ℕ) → out_says a.answer ≡ gives n → Given n
+    given : (n : ℕ) → says a.answer ≡ gives n → Given n
     given n e = go (assembly_of s d m (template_key t)) refl (sym told.answer ∙ e) told.output_is
       where
         go : (w : Option State) → assembly_of s d m (template_key t) ≡ w → mapped length (out_by (length o) w) ≡ gives n → o' ≡ put_out (out_by (length o) w) o → Given n
@@ -117,7 +117,7 @@ module _ (t : Template) (p : List ℕ) (one : OneHeader t) (few : length p ≤ s
                 }
 
     -- and it is given where that is complete and there is room
-    answered : 0 < length (pieces_of (template_key t) ls) → complete alone ≡ true → length p ≤ length o → out_says a.answer ≡ gives (length p)
+    answered : 0 < length (pieces_of (template_key t) ls) → complete alone ≡ true → length p ≤ length o → says a.answer ≡ gives (length p)
     unfolding alone
     answered some_piece c room =
         let whole : held_bytes alone ≡ p = built_whole slot_bytes slot_map (omega arith) (omega arith) t p one few ls built c in

@@ -17,7 +17,7 @@ use Rattle.ezpkt.specs.Build.{tcp_hdr_of, tcp_packet, packet_of}
 use Rattle.ezpkt.specs.declared.build.TcpSegment.{TcpSegment}
 use Rattle.ezpkt.specs.declared.build.Request.TheVariants.{Tcp}
 use Rattle.ezpkt.proofs.Deciding.{sized_fits}
-use Rattle.inspect.specs.Answers.{good}
+use Rattle.inspect.specs.declared.check.Verdict.TheVariants.{Good}
 use Rattle.inspect.specs.Header.{field_at}
 use Rattle.inspect.specs.Check.{tcp_cut, unless_bad, check_answer}
 use Rattle.inspect.specs.Encoded.{read_of}
@@ -75,13 +75,13 @@ module _ (t : TcpSegment) (p : List ℕ) (a : Asked (Tcp t) p) (whole : Whole (T
     e = renewed j x d
 
     -- It is good only if the word turned,
-    only : check_answer (ip_header y.header ++ e) ≡ gives good → Turned (field_at d j 2) x
+    only : check_answer (ip_header y.header ++ e) ≡ gives Good → Turned (field_at d j 2) x
     only g =
         let v = good_uncut (tcp_cut e) (verifies (pseudo t.saddr t.daddr 6 (length e) ++ e)) (sym (check e (renewed_length j x d)) ∙ g) in
         behind_only t.saddr t.daddr 6 d (omega arith) (omega arith) bytes sums j x ch v
 
     -- and if it turned it is: the data offset's word is neither 0000 nor ffff, and is kept.
-    turned : Turned (field_at d j 2) x → check_answer (ip_header y.header ++ e) ≡ gives good
+    turned : Turned (field_at d j 2) x → check_answer (ip_header y.header ++ e) ≡ gives Good
     turned q =
         let neither = high_neither d 12 0x50 (omega (arith, size)) bytes offset (omega arith) (omega arith) in
         let kept = turned_keeps d 12 1 j x x (omega arith) refl ch.even neither q in

@@ -21,7 +21,7 @@ use Rattle.ezpkt.specs.Build.{udp_hdr_of, udp_packet, packet_of}
 use Rattle.ezpkt.specs.declared.build.UdpDatagram.{UdpDatagram}
 use Rattle.ezpkt.specs.declared.build.Request.TheVariants.{Udp}
 use Rattle.ezpkt.proofs.Deciding.{datagram_fits}
-use Rattle.inspect.specs.Answers.{good, no_checksum}
+use Rattle.inspect.specs.declared.check.Verdict.TheVariants.{Good, NoChecksum}
 use Rattle.inspect.specs.Header.{field_at}
 use Rattle.inspect.specs.Check.{udp_cut, unless_bad, check_answer}
 use Rattle.inspect.specs.Encoded.{read_of}
@@ -82,7 +82,7 @@ module _ (u : UdpDatagram) (p : List ℕ) (a : Asked (Udp u) p) (whole : Whole (
   -- The check of another part as long.
   check : (e : List ℕ) → length e ≡ length d
       → check_answer (ip_header y.header ++ e)
-      ≡ cond (udp_cut e) (refused 14) (cond (eqb (field_at e 6 2) 0) (gives no_checksum) (unless_bad (verifies (pseudo u.saddr u.daddr 17 (length e) ++ e))))
+      ≡ cond (udp_cut e) (refused 14) (cond (eqb (field_at e 6 2) 0) (gives NoChecksum) (unless_bad (verifies (pseudo u.saddr u.daddr 17 (length e) ++ e))))
   unfolding read_of
   check e same = check_in y whole.0 e same ∙ udp_part (read_of y.header) e whole.1 refl
 
@@ -106,17 +106,17 @@ module _ (u : UdpDatagram) (p : List ℕ) (a : Asked (Udp u) p) (whole : Whole (
     verified_only v = behind_only u.saddr u.daddr 17 d (omega arith) (omega arith) bytes sums j x ch v
 
     -- and so is good only then,
-    only : check_answer (ip_header y.header ++ e) ≡ gives good → Turned (field_at d j 2) x
+    only : check_answer (ip_header y.header ++ e) ≡ gives Good → Turned (field_at d j 2) x
     only g =
-        let after = (past (udp_cut e) 14 _ good (sym (check e (renewed_length j x d)) ∙ g)).1 in
+        let after = (past (udp_cut e) 14 _ Good (sym (check e (renewed_length j x d)) ∙ g)).1 in
         verified_only (go (eqb (field_at e 6 2) 0) verified after)
       where
-        go : (z v : Bool) → cond z (gives no_checksum) (unless_bad v) ≡ gives good → v ≡ true
+        go : (z v : Bool) → cond z (gives NoChecksum) (unless_bad v) ≡ gives Good → v ≡ true
         go true v q = let z : ◌≡◌ {A = ℕ} 0 1 = cc in absurd (omega arith)
-        go false v q = (held v 15 good good q).0
+        go false v q = (held v 15 Good Good q).0
 
     -- and if it turned it is, where the word is not the checksum's: the length's is neither 0000 nor ffff, and is kept.
-    turned : (6 ≡ j → ⊥) → Turned (field_at d j 2) x → check_answer (ip_header y.header ++ e) ≡ gives good
+    turned : (6 ≡ j → ⊥) → Turned (field_at d j 2) x → check_answer (ip_header y.header ++ e) ≡ gives Good
     turned else q =
         let neither : Neither (field_at d 4 2) = (omega (arith, length_field_lem, size), omega (arith, length_field_lem, size, few)) in
         let cut = uncut e (renewed_length j x d) (turned_keeps d 4 2 j x x (omega arith) refl ch.even neither q) in
@@ -138,7 +138,7 @@ module _ (u : UdpDatagram) (p : List ℕ) (a : Asked (Udp u) p) (whole : Whole (
       go (inr (f, z)) = none z
 
   -- and 0 is read as none.
-  none_said : check_answer (ip_header y.header ++ renewed 6 0 d) ≡ gives no_checksum
+  none_said : check_answer (ip_header y.header ++ renewed 6 0 d) ≡ gives NoChecksum
   none_said =
       let e : List ℕ = renewed 6 0 d in
       let cut = uncut e (renewed_length 6 0 d) (field_before 4 2 6 0 d (omega arith)) in
@@ -167,7 +167,7 @@ module _ (u : UdpDatagram) (p : List ℕ) (a : Asked (Udp u) p) (whole : Whole (
   udp_sum x ch none = ap check_answer (word_in y 6 x) ∙ sum_seen x (change_in y 6 x ch) none
 
   -- One of 0 is read as none.
-  pub udp_none : check_answer (renewed (behind_ip + udp_sum_at) 0 (packet_of (Udp u) p)) ≡ gives no_checksum
+  pub udp_none : check_answer (renewed (behind_ip + udp_sum_at) 0 (packet_of (Udp u) p)) ≡ gives NoChecksum
   unfolding udp_packet
   udp_none = ap check_answer (word_in y 6 0) ∙ none_said
 

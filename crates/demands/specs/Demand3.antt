@@ -1,6 +1,7 @@
 -- Demand 3, over the promises of the calls: `open` and `take` of an assembly, `progress`, and `fragment`, `tail` and `datagram`, which cut.
-use Rattle.std.specs.Prelude.{◌≡◌, ◌↔◌, true, false, List, ℕ, ◌≤◌, ◌<◌, length, take}
-use Rattle.pkt.specs.Answers.{gives}
+use Rattle.std.specs.Prelude.{◌≡◌, ◌↔◌, true, false, List, ℕ, ◌≤◌, ◌<◌, length, take, Result, Ok}
+use Rattle.pkt.specs.Answers.{gives, says}
+use Rattle.pkt.specs.declared.refusal.Refusal.{Refusal}
 use Rattle.ezpkt.specs.declared.ip4.Template.{Template}
 use Rattle.assembly.specs.declared.Key.{Key}
 use Rattle.assembly.specs.declared.Rec.{Rec}
@@ -8,7 +9,7 @@ use Rattle.assembly.specs.declared.Taken.{Taken}
 use Rattle.assembly.specs.declared.step.Progress.{Progress}
 use Rattle.assembly.specs.declared.step.Progress.TheVariants.{Complete}
 use Rattle.assembly.specs.View.{view}
-use Rattle.assembly.specs.Answers.{Reply, taken_says, progress_says}
+use Rattle.assembly.specs.Answers.{progress_says}
 use Rattle.assembly.specs.Calls.{capacity, map_bytes, Takes, progress_answer}
 use Rattle.assembly.specs.Packets.{SamePieces, TwoContradict}
 use Rattle.demands.specs.Ranges.{Fitting}
@@ -25,15 +26,15 @@ pub record OneHeader (t : Template) : Type 0 where
 -- Pieces of the payload p under t, the packets ls, were handed in, and r, d and m are the record and the buffers after them.
 pub record FromOne (t : Template) (p : List ℕ) (ls : List (List ℕ)) (r : Rec) (d m : List ℕ) : Type 0 where
   -- "all are accepted": a call that hands in one more is not refused,
-  pub accepted : (l : List ℕ) (off len : ℕ) → CutBy t p l off len → (a : Taken) (d' m' : List ℕ) → Takes capacity map_bytes (view r d m) l a d' m'
-      → (x : Reply) × (taken_says a ≡ gives x)
+  pub accepted : (l : List ℕ) (off len : ℕ) → CutBy t p l off len → (a : Result Taken Refusal) (d' m' : List ℕ) → Takes capacity map_bytes (view r d m) l a d' m'
+      → (x : Taken) × (says a ≡ gives x)
   -- "and the state is never spoilt."
   pub never_spoilt : r.spoilt ≡ false
   -- "It is complete exactly when at least one was handed in and together they cover the payload,": so answers `progress`,
-  pub complete_when : (a : Progress) → progress_says a ≡ progress_answer capacity map_bytes (view r d m)
-      → ((n : ℕ) × (a ≡ Complete n)) ↔ ((0 < length ls) × Cover t p ls)
+  pub complete_when : (a : Result Progress Refusal) → progress_says a ≡ progress_answer capacity map_bytes (view r d m)
+      → ((n : ℕ) × (a ≡ Ok (Complete n))) ↔ ((0 < length ls) × Cover t p ls)
   -- "and it then holds that payload.": its length is answered, and it stands at the start of the payload buffer.
-  pub holds : (n : ℕ) → progress_says (Complete n) ≡ progress_answer capacity map_bytes (view r d m) → (n ≡ length p) × (take n d ≡ p)
+  pub holds : (n : ℕ) → progress_says (Ok (Complete n)) ≡ progress_answer capacity map_bytes (view r d m) → (n ≡ length p) × (take n d ≡ p)
 
 pub record Demand3 : Type 0 where
   -- "Start from a newly opened assembly. The same accepted pieces, in any order and with any repeats, end in the same state,

@@ -1,15 +1,14 @@
 -- Document 02, T-05: "For each frame the assembled pieces are that datagram and the check answers good."
-use Rattle.std.specs.Prelude.{◌≡◌, List, ℕ, ◌+◌, ◌<◌, length, take}
+use Rattle.std.specs.Prelude.{◌≡◌, List, ℕ, ◌+◌, ◌<◌, length, take, Result, Ok}
 use Rattle.pkt.specs.Answers.{gives}
 use Rattle.pkt.specs.Fields.{Bytes}
 use Rattle.ezpkt.specs.Build.{Answered}
 use Rattle.ezpkt.specs.Ip4.{datagram_of}
-use Rattle.ezpkt.specs.declared.build.Built.TheVariants.{Packet}
+use Rattle.pkt.specs.declared.refusal.Refusal.{Refusal}
 use Rattle.feed.specs.declared.Feed.{Feed}
 use Rattle.feed.specs.declared.Written.{Written}
-use Rattle.feed.specs.declared.Fed.TheVariants as fed
 use Rattle.feed.specs.Feed.{template_of, payload_of, frame_packets, Feeds}
-use Rattle.inspect.specs.Answers.{good}
+use Rattle.inspect.specs.declared.check.Verdict.TheVariants.{Good}
 use Rattle.inspect.specs.Check.{check_answer}
 use Rattle.assembly.specs.declared.Rec.{Rec}
 use Rattle.assembly.specs.declared.step.Progress.{Progress}
@@ -36,16 +35,16 @@ pub record FrameFed (f : Feed) (b s' : List ℕ) : Type 0 where
   pub output : List ℕ
   pub answered : Written
   pub output' : List ℕ
-  pub call : Feeds f b sec usec scratch output (fed.Frame answered) s' output'
+  pub call : Feeds f b sec usec scratch output (Ok answered) s' output'
 
 -- An assembly that was handed all the pieces of a frame of the telemetry b; r, d and m are its record and buffers after them.
 pub record Assembled (f : Feed) (b : List ℕ) (r : Rec) (d m : List ℕ) : Type 0 where
   -- It is complete, and so answers `progress`;
-  pub complete : (a : Progress) → progress_says a ≡ progress_answer capacity map_bytes (view r d m) → a ≡ Complete (8 + length b)
+  pub complete : (a : Result Progress Refusal) → progress_says a ≡ progress_answer capacity map_bytes (view r d m) → a ≡ Ok (Complete (8 + length b))
   -- it holds the datagram's header and telemetry;
   pub holds : take (8 + length b) d ≡ payload_of f b
   -- and what `datagram` builds of it is checked good.
-  pub checked : (o o' : List ℕ) (n : ℕ) → Answered (datagram_of (template_of f) (8 + length b)) (take (8 + length b) d) o (Packet n) o' → check_answer o' ≡ gives good
+  pub checked : (o o' : List ℕ) (n : ℕ) → Answered (datagram_of (template_of f) (8 + length b)) (take (8 + length b) d) o (Ok n) o' → check_answer o' ≡ gives Good
 
 pub record FrameAssembles (f : Feed) (b s' : List ℕ) : Type 0 where
   -- What is cut is the payload of the datagram that the call left in the scratch buffer:

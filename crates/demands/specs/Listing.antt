@@ -1,13 +1,12 @@
 -- Document 02, T-01: "Demand 3 reads over the list as over single pieces."
 use mathlib.Core.List.{List, [], map, Memᴰ}
-use Rattle.std.specs.Prelude.{◌≡◌, ℕ, ◌*◌, ◌≤◌, ◌<◌, length, take, get_or}
+use Rattle.std.specs.Prelude.{◌≡◌, ℕ, ◌*◌, ◌≤◌, ◌<◌, length, take, get_or, Ok}
 use Rattle.ezpkt.specs.Build.{start_at, end_at, packet_of}
 use Rattle.ezpkt.specs.Ip4.{fragment_of}
 use Rattle.ezpkt.specs.declared.ip4.Template.{Template}
 use Rattle.pieces.specs.Fragments.{Fragmented}
 use Rattle.pieces.specs.OneByOne.{request_at}
 use Rattle.pieces.specs.declared.BlockRequest.{BlockRequest}
-use Rattle.pieces.specs.declared.Pieces.TheVariants.{Written}
 use Rattle.reporting.specs.Report.{cut_at}
 use Rattle.assembly.specs.declared.Rec.{Rec}
 use Rattle.demands.specs.Handing.{Handed}
@@ -32,7 +31,7 @@ pub record Listed (t : Template) (rs : List BlockRequest) (p o' e' : List ℕ) :
   pub output : List ℕ
   pub places : List ℕ
   pub size : ℕ
-  pub call : Fragmented t rs p output places (Written size) o' e'
+  pub call : Fragmented t rs p output places (Ok size) o' e'
   pub none_past : NonePast rs p
 
 pub record ListAssembles : Type 0 where

@@ -1,5 +1,5 @@
 -- Document 02, T-08, of packets that this library writes: "Old test captures carry wrong checksums after addresses were blanked."
-use Rattle.std.specs.Prelude.{◌≡◌, false, ℕ, length, take, drop}
+use Rattle.std.specs.Prelude.{◌≡◌, false, ℕ, length, take, drop, Ok}
 use mathlib.Core.List.{List, [], ◌++◌, map, Memᴰ}
 use Rattle.pkt.specs.Answers.{gives}
 use Rattle.pkt.specs.Fields.{be, Bytes}
@@ -12,8 +12,7 @@ use Rattle.feed.specs.declared.Feed.{Feed}
 use Rattle.feed.specs.Feed.{frame_packets}
 use Rattle.mending.specs.Sums.{sums_in, mend_packet}
 use Rattle.mending.specs.Packets.{AllRight}
-use Rattle.mending.specs.Mend.{mend, changes, Mends}
-use Rattle.mending.specs.declared.Mended.TheVariants.{Written}
+use Rattle.mending.specs.Mend.{mend, changes, counts, Mends}
 use Rattle.demands.specs.Ranges.{Between, InRange}
 use Rattle.demands.specs.Checked.{reserved_field, piece_field}
 use Rattle.demands.specs.Laps.{FrameFed}
@@ -100,4 +99,4 @@ pub record MendsBuilt : Type 0 where
   pub rewrites : (xs : List Blanked) → ((x : Blanked) → Memᴰ x xs → Mendable x) → mend (capture_bytes (map damaged xs)) ≡ capture_bytes (map rewritten xs)
   -- So does the call.
   pub calls : (xs : List Blanked) (o o' : List ℕ) (e e' : List (List ℕ)) (n k : ℕ) → ((x : Blanked) → Memᴰ x xs → Mendable x)
-      → Mends (capture_bytes (map damaged xs)) o e (Written n k) o' e' → take n o' ≡ capture_bytes (map rewritten xs)
+      → Mends (capture_bytes (map damaged xs)) o e (Ok (counts n k)) o' e' → take n o' ≡ capture_bytes (map rewritten xs)

@@ -1,5 +1,6 @@
 -- Document 02, T-11: a packet with options is taken, checked, counted and mended as the one without.
-use Rattle.std.specs.Prelude.{◌≡◌, ◌↔◌, List, [], ◌∷◌, ◌++◌, ℕ, ◌+◌, ◌<◌, length}
+use Rattle.std.specs.Prelude.{◌≡◌, ◌↔◌, List, [], ◌∷◌, ◌++◌, ℕ, ◌+◌, ◌<◌, length, Result, Ok}
+use Rattle.pkt.specs.declared.refusal.Refusal.{Refusal}
 use Rattle.pkt.specs.Answers.{gives, mapped}
 use Rattle.pkt.specs.Fields.{Bytes}
 use Rattle.pkt.specs.Rfc791.{ip_bytes, ip_header}
@@ -7,7 +8,8 @@ use Rattle.pkt.specs.declared.ipv4.ip_hdr.{ip_hdr}
 use Rattle.ezpkt.specs.Build.{packet_of}
 use Rattle.ezpkt.specs.declared.SocketAddrV4.{SocketAddrV4}
 use Rattle.ezpkt.specs.declared.build.Request.{Request}
-use Rattle.inspect.specs.Answers.{Whole, whole}
+use Rattle.inspect.specs.declared.check.Whole.{Whole}
+use Rattle.inspect.specs.Answers.{whole}
 use Rattle.inspect.specs.Header.{read_answer}
 use Rattle.inspect.specs.Check.{check_answer, examine_answer}
 use Rattle.inspect.specs.Encoded.{IpFit}
@@ -23,7 +25,6 @@ use Rattle.table.specs.declared.Placed.{Placed}
 use Rattle.table.specs.Table.{table_take, Tables}
 use Rattle.reporting.specs.Report.{cut_at, Reports}
 use Rattle.reporting.specs.declared.Report.{Report}
-use Rattle.reporting.specs.declared.Reported.TheVariants.{Is}
 use Rattle.mending.specs.Sums.{mend_packet}
 use Rattle.demands.specs.Mending.{Asked}
 
@@ -71,14 +72,14 @@ pub record OptionsPassed : Type 0 where
   -- "the same piece", for every key and in an assembly of any capacity:
   pub carried : (o : Optioned) (r r' : List ℕ) (C : ℕ) (k : Key) → piece_answer C k (full o r) ≡ piece_answer C k (bare o.parts r')
   -- what a call of an assembly or of a table may do with the one, it may do with the other, and that is one thing.
-  pub taken : (o : Optioned) (r r' : List ℕ) (C M : ℕ) (s : State) (a : Taken) (d m : List ℕ) → Takes C M s (full o r) a d m ↔ Takes C M s (bare o.parts r') a d m
+  pub taken : (o : Optioned) (r r' : List ℕ) (C M : ℕ) (s : State) (a : Result Taken Refusal) (d m : List ℕ) → Takes C M s (full o r) a d m ↔ Takes C M s (bare o.parts r') a d m
   pub tabled : (o : Optioned) (r r' : List ℕ) (t : List Slot) (d m : List ℕ) (a : Placed) (d' m' : List ℕ)
       → Tables (table_take t d m (full o r)) t d m a d' m' ↔ Tables (table_take t d m (bare o.parts r')) t d m a d' m'
   -- So packets "with options and without mixed" end in the state of those without,
   pub assembled : (C M : ℕ) (s : State) (ls ms : List (List ℕ)) → Mixed ls ms → take_all C M s ms ≡ take_all C M s ls
   -- and two calls report the same of them.
   pub reported : (ls ms : List (List ℕ)) → Mixed ls ms → (l es m fs : List ℕ) → cut_at 0 es l ≡ ls → cut_at 0 fs m ≡ ms
-      → (cl sv : SocketAddrV4) (r q : Report) → Reports l es cl sv (Is r) → Reports m fs cl sv (Is q) → q ≡ r
+      → (cl sv : SocketAddrV4) (r q : Report) → Reports l es cl sv (Ok r) → Reports m fs cl sv (Ok q) → q ≡ r
   -- Whatever its header's checksum, it is as whole as the one without,
   pub examined : (o : Optioned) (x y : ℕ) (r r' : List ℕ)
       → examine_answer (full_with x o r) ≡ mapped (λ w. whole (past_options (length o.options) w.header) w.kind) (examine_answer (bare_with y o.parts r'))

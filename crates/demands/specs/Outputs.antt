@@ -1,17 +1,16 @@
 -- What the calls that build and send leave in the output: packets of the lengths that are answered, checked as they are owed.
-use Rattle.std.specs.Prelude.{◌≡◌, ℕ, ◌-◌, ◌<◌}
+use Rattle.std.specs.Prelude.{◌≡◌, ℕ, ◌-◌, ◌<◌, Result, Ok}
 use mathlib.Core.List.{List, [], ◌∷◌, ◌++◌, Memᴰ}
 use Rattle.std.proofs.Math.Seq.{slice}
 use Rattle.pkt.specs.Answers.{gives}
 use Rattle.pkt.specs.Fields.{Bytes}
 use Rattle.ezpkt.specs.Build.{packet_of, Answered}
-use Rattle.ezpkt.specs.Icmp4.{Echoed}
+use Rattle.ezpkt.specs.Icmp4.{echo_gone, Echoed}
 use Rattle.ezpkt.specs.declared.build.Request.{Request}
 use Rattle.ezpkt.specs.declared.build.Request.TheVariants.{Tcp, Echo}
 use Rattle.ezpkt.specs.declared.build.IcmpEcho.{IcmpEcho}
-use Rattle.ezpkt.specs.declared.build.Built.TheVariants as built
+use Rattle.pkt.specs.declared.refusal.Refusal.{Refusal}
 use Rattle.ezpkt.specs.declared.icmp4.IcmpFlow.{IcmpFlow}
-use Rattle.ezpkt.specs.declared.icmp4.EchoSent.TheVariants as echo
 use Rattle.tcp4.specs.Tcp4.{Emit, Gone, segment_of, after_one, sent_says, Sends}
 use Rattle.tcp4.specs.declared.TcpFlow.{TcpFlow}
 use Rattle.tcp4.specs.declared.Sent.{Sent}
@@ -45,10 +44,10 @@ Sendable es = (e : Emit) → Memᴰ e es → (e.frag < 65536) × Bytes e.body
 -- Each call that was not refused.
 pub record BuiltAsOwed : Type 0 where
   -- `build`, `fragment`, `tail`, `datagram`, `client_dgram`, `server_dgram`
-  pub building : (q : Request) (p o b : List ℕ) (n : ℕ) → InRange q → Bytes p → Answered q p o (built.Packet n) b → Stands q p b 0 n
+  pub building : (q : Request) (p o b : List ℕ) (n : ℕ) → InRange q → Bytes p → Answered q p o (Ok n) b → Stands q p b 0 n
   -- `echo`, `echo_reply`
-  pub echoing : (e : IcmpEcho) (f g : IcmpFlow) (p o b : List ℕ) (n : ℕ) → InRange (Echo e) → Bytes p → Echoed (Echo e) f p o (echo.Packet g n) b
+  pub echoing : (e : IcmpEcho) (f g : IcmpFlow) (p o b : List ℕ) (n : ℕ) → InRange (Echo e) → Bytes p → Echoed (Echo e) f p o (Ok (echo_gone g n)) b
       → Stands (Echo e) p b 0 n
   -- the calls of `TcpFlow` that send: each packet up to the end that is answered for it
-  pub sending : (f : TcpFlow) (es : List Emit) (o b : List ℕ) (r : Sent) (g : Gone) → Between f.cl.ip f.sv.ip → Marked f.marks → Sendable es → Sends f es o r b
+  pub sending : (f : TcpFlow) (es : List Emit) (o b : List ℕ) (r : Result Sent Refusal) (g : Gone) → Between f.cl.ip f.sv.ip → Marked f.marks → Sendable es → Sends f es o r b
       → sent_says r ≡ gives g → EndToEnd b f es 0 g.ends

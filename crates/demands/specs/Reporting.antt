@@ -1,5 +1,7 @@
 -- Document 02, T-10, of what the calls of `TcpFlow` send: reported over, it is all expected, with exactly what was sent, also across 2^32.
-use Rattle.std.specs.Prelude.{◌≡◌, false, ℕ, ◌+◌, ◌<◌, length}
+use Rattle.std.specs.Prelude.{◌≡◌, false, ℕ, ◌+◌, ◌<◌, length, Result, Ok}
+use Rattle.pkt.specs.declared.refusal.Refusal.{Refusal}
+use Rattle.pkt.specs.declared.refusal.ListRefusal.{ListRefusal}
 use mathlib.Core.List.{List, [], ◌∷◌, ◌++◌, Memᴰ}
 use Rattle.pkt.specs.Answers.{gives}
 use Rattle.pkt.specs.Fields.{Bytes}
@@ -15,8 +17,6 @@ use Rattle.reporting.specs.Packets.{same_end}
 use Rattle.reporting.specs.Report.{cut_at, Reports}
 use Rattle.reporting.specs.declared.Tally.{Tally}
 use Rattle.reporting.specs.declared.Report.{Report}
-use Rattle.reporting.specs.declared.Reported.{Reported}
-use Rattle.reporting.specs.declared.Reported.TheVariants.{Is}
 use Rattle.demands.specs.Ranges.{Between, Marked}
 use Rattle.demands.specs.Checked.{reserved_field, piece_field}
 
@@ -42,7 +42,7 @@ pub record Passable (e : Emit) : Type 0 where
 -- set between them. What was to be sent, and the packets: each call's output, cut at the ends that it answers.
 pub data CallsSend : TcpFlow → List Emit → List (List ℕ) → Type 0 where
   none : (f : TcpFlow) → CallsSend f [] []
-  more : (f : TcpFlow) (es : List Emit) (o : List ℕ) (r : Sent) (b : List ℕ) (g : Gone) (rest : List Emit) (ps : List (List ℕ)) → Sends f es o r b
+  more : (f : TcpFlow) (es : List Emit) (o : List ℕ) (r : Result Sent Refusal) (b : List ℕ) (g : Gone) (rest : List Emit) (ps : List (List ℕ)) → Sends f es o r b
       → sent_says r ≡ gives g → CallsSend g.flow rest ps → CallsSend f (es ++ rest) (cut_at 0 g.ends b ++ ps)
 
 -- what a side's packets come to, of a number that each has
@@ -69,7 +69,7 @@ pub record AsSent (es : List Emit) (r : Report) : Type 0 where
 pub record SentExpected : Type 0 where
   -- Whatever bytes and ends give those packets: what the call reports of the flow is what was sent.
   pub reported : (f : TcpFlow) (es : List Emit) (ps : List (List ℕ)) → TwoEnds f → ((e : Emit) → Memᴰ e es → Passable e) → CallsSend f es ps
-      → (l js : List ℕ) (r : Report) → cut_at 0 js l ≡ ps → Reports l js f.cl f.sv (Is r) → AsSent es r
+      → (l js : List ℕ) (r : Report) → cut_at 0 js l ≡ ps → Reports l js f.cl f.sv (Ok r) → AsSent es r
   -- The output of one call, with the ends that it answers, is not refused.
-  pub accepted : (f : TcpFlow) (es : List Emit) (o : List ℕ) (r : Sent) (b : List ℕ) (g : Gone) → Sends f es o r b → sent_says r ≡ gives g
-      → (q : Reported) → Reports b g.ends f.cl f.sv q → (x : Report) × (q ≡ Is x)
+  pub accepted : (f : TcpFlow) (es : List Emit) (o : List ℕ) (r : Result Sent Refusal) (b : List ℕ) (g : Gone) → Sends f es o r b → sent_says r ≡ gives g
+      → (q : Result Report ListRefusal) → Reports b g.ends f.cl f.sv q → (x : Report) × (q ≡ Ok x)

@@ -1,5 +1,5 @@
 -- Build, cut, assemble, check: a packet that is built, whose IPv4 payload is cut, is put together again and checked.
-use Rattle.std.specs.Prelude.{◌≡◌, List, ℕ, take, drop}
+use Rattle.std.specs.Prelude.{◌≡◌, List, ℕ, take, drop, Ok}
 use Rattle.pkt.specs.Answers.{gives}
 use Rattle.ezpkt.specs.Build.{Answered}
 use Rattle.ezpkt.specs.Ip4.{datagram_of}
@@ -9,12 +9,11 @@ use Rattle.ezpkt.specs.declared.build.TcpSegment.{TcpSegment}
 use Rattle.ezpkt.specs.declared.build.UdpDatagram.{UdpDatagram}
 use Rattle.ezpkt.specs.declared.build.IcmpEcho.{IcmpEcho}
 use Rattle.ezpkt.specs.declared.build.Request.TheVariants.{Tcp, Udp, Echo}
-use Rattle.ezpkt.specs.declared.build.Built.TheVariants.{Packet}
-use Rattle.inspect.specs.Answers.{good}
+use Rattle.inspect.specs.declared.check.Verdict.TheVariants.{Good}
 use Rattle.inspect.specs.Check.{check_answer}
 use Rattle.assembly.specs.declared.Rec.{Rec}
 use Rattle.assembly.specs.View.{view}
-use Rattle.assembly.specs.Assembly.{is_complete}
+use Rattle.assembly.specs.declared.Outcome.TheVariants.{Complete}
 use Rattle.assembly.specs.Answers.{standing}
 use Rattle.assembly.specs.Calls.{capacity, map_bytes, progress_answer}
 use Rattle.demands.specs.Cutting.{Finished, CallsAssemble}
@@ -39,5 +38,5 @@ pub data Owed (t : Template) : Request → Type 0 where
 pub record RoundTrip (t : Template) (d : List ℕ) : Type 0 where
   pub calls : CallsAssemble t d
   pub checked : (r : Rec) (payload map : List ℕ) → Finished t d r payload map
-      → (k : ℕ) → progress_answer capacity map_bytes (view r payload map) ≡ gives (standing is_complete k)
-      → (o b : List ℕ) (n : ℕ) → Answered (datagram_of t k) (take k payload) o (Packet n) b → check_answer b ≡ gives good
+      → (k : ℕ) → progress_answer capacity map_bytes (view r payload map) ≡ gives (standing Complete k)
+      → (o b : List ℕ) (n : ℕ) → Answered (datagram_of t k) (take k payload) o (Ok n) b → check_answer b ≡ gives Good

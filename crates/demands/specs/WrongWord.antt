@@ -8,7 +8,7 @@ use Rattle.ezpkt.specs.declared.build.UdpDatagram.{UdpDatagram}
 use Rattle.ezpkt.specs.declared.build.IcmpEcho.{IcmpEcho}
 use Rattle.ezpkt.specs.declared.build.Request.{Request}
 use Rattle.ezpkt.specs.declared.build.Request.TheVariants.{Tcp, Udp, Echo}
-use Rattle.inspect.specs.Answers.{good, no_checksum}
+use Rattle.inspect.specs.declared.check.Verdict.TheVariants.{Good, NoChecksum}
 use Rattle.inspect.specs.Header.{field_at, read_answer}
 use Rattle.inspect.specs.Check.{check_answer}
 use Rattle.inspect.specs.declared.header.IpRead.{IpRead}
@@ -39,7 +39,7 @@ behind_ip = 20
 
 -- A word of the transport part is changed: "The check then still answers good only if" it turned; and if it did, it does.
 abbrev pub GoodIfTurned : List ℕ → ℕ → ℕ → Type 0
-GoodIfTurned l i x = (check_answer (renewed i x l) ≡ gives good) ↔ Turned (field_at l i 2) x
+GoodIfTurned l i x = (check_answer (renewed i x l) ≡ gives Good) ↔ Turned (field_at l i 2) x
 
 -- The odd last byte is changed: it stands for a word whose low byte is 0, and is always seen.
 abbrev pub LastSeen : List ℕ → ℕ → Type 0
@@ -58,7 +58,7 @@ pub record WrongWords : Type 0 where
   pub udp_sum : (u : UdpDatagram) (p : List ℕ) → Asked (Udp u) p → Whole (Udp u) → (x : ℕ) → WordChange (packet_of (Udp u) p) (behind_ip + udp_sum_at) x
       → (x ≡ 0 → ⊥) → check_answer (renewed (behind_ip + udp_sum_at) x (packet_of (Udp u) p)) ≡ refused 15
   pub udp_none : (u : UdpDatagram) (p : List ℕ) → Asked (Udp u) p → Whole (Udp u)
-      → check_answer (renewed (behind_ip + udp_sum_at) 0 (packet_of (Udp u) p)) ≡ gives no_checksum
+      → check_answer (renewed (behind_ip + udp_sum_at) 0 (packet_of (Udp u) p)) ≡ gives NoChecksum
   pub udp_last : (u : UdpDatagram) (p : List ℕ) → Asked (Udp u) p → Whole (Udp u) → (b : ℕ)
       → LastChange (packet_of (Udp u) p) b → LastSeen (packet_of (Udp u) p) b
   -- an ICMP echo

@@ -3,22 +3,22 @@ use mathlib.Core.Path.{◌≡◌, sym, ap, ◌∙◌}
 use mathlib.Core.List.{List}
 use Prim.Native.Nat.{ℕ}
 use Rattle.pkt.specs.Written.{Promise}
-use Rattle.ezpkt.specs.Answers.{built_says}
+use Rattle.std.specs.Prelude.{Result}
+use Rattle.pkt.specs.Answers.{says}
+use Rattle.pkt.specs.declared.refusal.Refusal.{Refusal}
 use Rattle.ezpkt.specs.Build.{Answered}
 use Rattle.ezpkt.specs.Udp4.{dgram_of}
 use Rattle.ezpkt.specs.declared.Marks.{Marks}
 use Rattle.ezpkt.specs.declared.SocketAddrV4.{SocketAddrV4}
-use Rattle.ezpkt.specs.declared.build.Built.{Built}
 use Rattle.ezpkt.specs.declared.build.Request.TheVariants.{Udp}
 use Rattle.ezpkt.specs.declared.udp4.Choices.{Choices}
 use Rattle.tcp4.specs.Tcp4.{Emit, sent_says, Sends}
 use Rattle.tcp4.specs.declared.TcpFlow.{TcpFlow}
 use Rattle.tcp4.specs.declared.Sent.{Sent}
 use Rattle.assembly.specs.View.{view}
-use Rattle.assembly.specs.Answers.{opened_says, taken_says}
 use Rattle.assembly.specs.Calls.{capacity, map_bytes, Opens, Takes}
 use Rattle.assembly.specs.declared.Key.{Key}
-use Rattle.assembly.specs.declared.Opened.{Opened}
+use Rattle.assembly.specs.declared.Rec.{Rec}
 use Rattle.assembly.specs.declared.Taken.{Taken}
 use Rattle.wispbundle.specs.Answers.{length_for, tcp_for, choices_of, rec_of, opened_for, taken_for}
 use Rattle.wispbundle.specs.Calls.{Builds, TcpSends, AssemblyOpens, AssemblyTakes}
@@ -35,23 +35,23 @@ pub told_to : {S A R B : Type 0} {says : S → A} {a : A} {x o : B} {s : S} {r :
 told_to to e p = record { answer = e ∙ ap to p.answer; after = p.after }
 
 -- .. of the packets of a flow,
-pub tcp_sends : (f : TcpFlow) (es : List Emit) (o o' : List ℕ) (s : Sent) (r : wb_tcp_sent)
+pub tcp_sends : (f : TcpFlow) (es : List Emit) (o o' : List ℕ) (s : Result Sent Refusal) (r : wb_tcp_sent)
     → r ≡ tcp_for f (sent_says s) → Sends f es o s o' → TcpSends f es o r o'
 tcp_sends f es o o' s r e x = told_to (tcp_for f) e x
 
 -- and of a datagram from a to b with the marks m, where w are the choices that C made
-pub datagrams : (x : wb_choices) (w : Choices) (m : Marks) (a b : SocketAddrV4) (p o o' : List ℕ) (k : Built) (r : wb_length)
-    → w ≡ choices_of x → r ≡ length_for (built_says k) → Answered (Udp (dgram_of m a b w)) p o k o' → Builds (Udp (dgram_of m a b (choices_of x))) p o r o'
+pub datagrams : (x : wb_choices) (w : Choices) (m : Marks) (a b : SocketAddrV4) (p o o' : List ℕ) (k : Result ℕ Refusal) (r : wb_length)
+    → w ≡ choices_of x → r ≡ length_for (says k) → Answered (Udp (dgram_of m a b w)) p o k o' → Builds (Udp (dgram_of m a b (choices_of x))) p o r o'
 datagrams x w m a b p o o' k r q e y = told_to length_for e (rw q at y)
 
 -- what is told of an answer s that is this one, t
-pub tcp_told : (f : TcpFlow) (s t : Sent) (r : wb_tcp_sent) → s ≡ t → r ≡ tcp_for f (sent_says t) → r ≡ tcp_for f (sent_says s)
-tcp_told f s t r q e = e ∙ ap (λ (x : Sent). tcp_for f (sent_says x)) (sym q)
+pub tcp_told : (f : TcpFlow) (s t : Result Sent Refusal) (r : wb_tcp_sent) → s ≡ t → r ≡ tcp_for f (sent_says t) → r ≡ tcp_for f (sent_says s)
+tcp_told f s t r q e = e ∙ ap (λ (x : Result Sent Refusal). tcp_for f (sent_says x)) (sym q)
 
-pub assembly_opens : {k : Key} {d m d' m' : List ℕ} {a : Opened} {r : wb_opened}
-    → r ≡ opened_for (opened_says a) → Opens capacity map_bytes k d m a d' m' → AssemblyOpens k d m r d' m'
+pub assembly_opens : {k : Key} {d m d' m' : List ℕ} {a : Result Rec Refusal} {r : wb_opened}
+    → r ≡ opened_for (says a) → Opens capacity map_bytes k d m a d' m' → AssemblyOpens k d m r d' m'
 assembly_opens e x = record { answer = e ∙ ap opened_for x.answer; payload_is = x.payload_is; map_is = x.map_is }
 
-pub assembly_takes : {a : wb_assembly} {d m l d' m' : List ℕ} {t : Taken} {r : wb_taken}
-    → r ≡ taken_for a (taken_says t) → Takes capacity map_bytes (view (rec_of a) d m) l t d' m' → AssemblyTakes a d m l r d' m'
+pub assembly_takes : {a : wb_assembly} {d m l d' m' : List ℕ} {t : Result Taken Refusal} {r : wb_taken}
+    → r ≡ taken_for a (says t) → Takes capacity map_bytes (view (rec_of a) d m) l t d' m' → AssemblyTakes a d m l r d' m'
 assembly_takes {a} e x = record { answer = e ∙ ap (taken_for a) x.answer; payload_is = x.payload_is; map_is = x.map_is }

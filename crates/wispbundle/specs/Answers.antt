@@ -1,23 +1,23 @@
 -- What each answer is to C. The status is 0 where the call was carried out, and else the refusal's number; on a refusal all else is 0, but a
 -- flow or an assembly that was handed in comes back as it was, and a refusal with an index has it.
-use Rattle.std.specs.Prelude.{ℕ, Bool, true, false, cond, get_or}
+use Rattle.std.specs.Prelude.{ℕ, Bool, true, false, cond, get_or, is_some, unwrap_or}
+use Rattle.std.specs.Bool.{then_some}
 use Rattle.pkt.specs.Answers.{Answer, refused, gives, ListAnswer, refused_whole, refused_at, gives_all}
-use Rattle.ezpkt.specs.Icmp4 as icmp
 use Rattle.tcp4.specs.Tcp4 as tcp
 use Rattle.ezpkt.specs.declared.icmp4.IcmpFlow.{IcmpFlow}
+use Rattle.ezpkt.specs.declared.icmp4.EchoSent.{EchoSent}
 use Rattle.tcp4.specs.declared.TcpFlow.{TcpFlow}
 use Rattle.tcp4.specs.declared.PushedState.{PushedState}
 use Rattle.tcp4.specs.declared.Seq.{Seq}
 use Rattle.tcp4.specs.declared.Seq.TheVariants.{Is, Nothing}
 use Rattle.ezpkt.specs.declared.udp4.Choices.{Choices}
-use Rattle.ezpkt.specs.declared.udp4.SrcIp.{SrcIp}
-use Rattle.ezpkt.specs.declared.udp4.SrcIp.TheVariants.{Own, Other}
-use Rattle.inspect.specs.Answers.{Verdict, good, no_checksum}
-use Rattle.assembly.specs.Assembly.{Outcome, isWaiting, is_complete, isSpoilt}
-use Rattle.assembly.specs.Answers.{Reply, Standing}
+use Rattle.inspect.specs.declared.check.Verdict.{Verdict}
+use Rattle.inspect.specs.declared.check.Verdict.TheVariants.{Good, NoChecksum}
+use Rattle.assembly.specs.declared.Outcome.{Outcome}
+use Rattle.assembly.specs.declared.Outcome.TheVariants.{Waiting, Complete, Spoilt}
+use Rattle.assembly.specs.declared.Taken.{Taken}
+use Rattle.assembly.specs.Answers.{Standing}
 use Rattle.assembly.specs.declared.Rec.{Rec}
-use Rattle.assembly.specs.declared.Total.{Total}
-use Rattle.assembly.specs.declared.Total.TheVariants.{Known, Unknown}
 use Rattle.wispbundle.specs.declared.sums.wb_sum.{wb_sum}
 use Rattle.wispbundle.specs.declared.lengths.wb_length.{wb_length}
 use Rattle.wispbundle.specs.declared.building.wb_listed.{wb_listed}
@@ -70,45 +70,30 @@ abbrev pub pushed_for : PushedState → wb_pushed
 pushed_for p = record { flow = p.flow; cl = seq_for p.cl; sv = seq_for p.sv }
 
 -- the flow after an echo, and the echo's length
-abbrev pub icmp_for : IcmpFlow → Answer icmp.EchoGone → wb_icmp_sent
+abbrev pub icmp_for : IcmpFlow → Answer EchoSent → wb_icmp_sent
 icmp_for f (gives g) = record { status = 0; flow = g.flow; length = g.size }
 icmp_for f (refused n) = record { status = n; flow = f; length = 0 }
 
 -- another source address than the flow's, or none
-abbrev pub source_for : Bool → ℕ → SrcIp
-source_for other ip = cond other (Other ip) Own
-
 abbrev pub choices_of : wb_choices → Choices
-choices_of x = record { srcip = source_for x.other_source x.srcip; frag_off = x.frag_off; csum = x.csum }
+choices_of x = record { srcip = then_some x.other_source x.srcip; frag_off = x.frag_off; csum = x.csum }
 
 -- ---- the check
 
 abbrev pub checked_for : Answer Verdict → wb_checked
-checked_for (gives good) = record { status = 0; no_checksum = false }
-checked_for (gives no_checksum) = record { status = 0; no_checksum = true }
+checked_for (gives Good) = record { status = 0; no_checksum = false }
+checked_for (gives NoChecksum) = record { status = 0; no_checksum = true }
 checked_for (refused n) = record { status = n; no_checksum = false }
 
 -- ---- an assembly
 
--- "total (known or not)"; and back
-abbrev pub total_for : Bool → ℕ → Total
-total_for known t = cond known (Known t) Unknown
-
-abbrev pub known_for : Total → Bool
-known_for (Known t) = true
-known_for Unknown = false
-
-abbrev pub bound_for : Total → ℕ
-bound_for (Known t) = t
-bound_for Unknown = 0
-
--- the record that C hands in; and back
+-- the record that C hands in, "total (known or not)"; and back
 abbrev pub rec_of : wb_assembly → Rec
-rec_of a = record { key = a.key; total = total_for a.known a.total; floor = a.floor; spoilt = a.spoilt }
+rec_of a = record { key = a.key; total = then_some a.known a.total; floor = a.floor; spoilt = a.spoilt }
 
 abbrev pub assembly_for : Rec → wb_assembly
 assembly_for r =
-    record { key = r.key; known = known_for r.total; total = bound_for r.total; floor = r.floor; spoilt = r.spoilt }
+    record { key = r.key; known = is_some r.total; total = unwrap_or r.total 0; floor = r.floor; spoilt = r.spoilt }
 
 abbrev pub no_assembly : wb_assembly
 no_assembly =
@@ -120,14 +105,14 @@ opened_for (refused n) = record { status = n; assembly = no_assembly }
 
 -- "waiting, complete or spoilt"
 abbrev pub outcome_for : Outcome → ℕ
-outcome_for isWaiting = 1
-outcome_for is_complete = 2
-outcome_for isSpoilt = 3
+outcome_for Waiting = 1
+outcome_for Complete = 2
+outcome_for Spoilt = 3
 
 abbrev pub accepted_for : ℕ → Rec → wb_taken
 accepted_for o r = record { status = 0; outcome = o; assembly = assembly_for r }
 
-abbrev pub taken_for : wb_assembly → Answer Reply → wb_taken
+abbrev pub taken_for : wb_assembly → Answer Taken → wb_taken
 taken_for a (gives t) = accepted_for (outcome_for t.answer) t.rec
 taken_for a (refused n) = record { status = n; outcome = 0; assembly = a }
 

@@ -1,12 +1,14 @@
 // One datagram put together from its pieces.
 ghost use Rattle.std.specs.Prelude.{◌≡◌};
+ghost use Rattle.pkt.specs.Answers.{says};
 ghost use Rattle.assembly.specs.View.{view};
-ghost use Rattle.assembly.specs.Answers.{opened_says, taken_says, progress_says};
+ghost use Rattle.assembly.specs.Answers.{progress_says};
 ghost use Rattle.assembly.specs.Calls.{capacity, map_bytes, progress_answer};
-ghost use Rattle.wispbundle.specs.Answers.{total_for, rec_of, known_for, bound_for, assembly_for, no_assembly, opened_for, accepted_for, taken_for, stood_for, progress_for};
+ghost use Rattle.wispbundle.specs.Answers.{rec_of, assembly_for, no_assembly, opened_for, outcome_for, taken_for, stood_for, progress_for};
 ghost use Rattle.wispbundle.specs.Calls.{AssemblyOpens, AssemblyTakes};
 
-use assembly::{Key, Opened, Progress, Rec, Taken, Total};
+use assembly::{Key, Outcome, Progress, Rec, Taken};
+use pkt::refusal::Refusal;
 
 // Bytes are still missing.
 pub const WAITING: u8 = 1;
@@ -51,57 +53,30 @@ pub struct wb_progress {
     pub length: usize,
 }
 
-fn total_of(known: bool, total: usize) -> Total
-    ensures { result ≡ total_for known total }
-{
-    if known {
-        Total::Known(total)
-    } else {
-        Total::Unknown
+impl From<wb_assembly> for Rec {
+    ghost from_gives = { λ given rec. rec ≡ rec_of given };
+
+    fn from(given: wb_assembly) -> Self {
+        Rec {
+            key: given.key,
+            total: given.known.then_some(given.total),
+            floor: given.floor,
+            spoilt: given.spoilt,
+        }
     }
 }
 
-fn rec_of(given: wb_assembly) -> Rec
-    ensures { result ≡ rec_of given }
-{
-    let key = given.key;
-    Rec {
-        key,
-        total: total_of(given.known, given.total),
-        floor: given.floor,
-        spoilt: given.spoilt,
-    }
-}
+impl From<Rec> for wb_assembly {
+    ghost from_gives = { λ rec told. told ≡ assembly_for rec };
 
-fn known(total: Total) -> bool
-    ensures { result ≡ known_for total }
-{
-    match total {
-        Total::Known(_) => true,
-        Total::Unknown => false,
-    }
-}
-
-fn bound(total: Total) -> usize
-    ensures { result ≡ bound_for total }
-{
-    match total {
-        Total::Known(t) => t,
-        Total::Unknown => 0,
-    }
-}
-
-fn kept(rec: Rec) -> wb_assembly
-    ensures { result ≡ assembly_for rec }
-{
-    let key = rec.key;
-    let total = rec.total;
-    wb_assembly {
-        key,
-        known: known(total),
-        total: bound(total),
-        floor: rec.floor,
-        spoilt: rec.spoilt,
+    fn from(rec: Rec) -> Self {
+        wb_assembly {
+            key: rec.key,
+            known: rec.total.is_some(),
+            total: rec.total.unwrap_or(0),
+            floor: rec.floor,
+            spoilt: rec.spoilt,
+        }
     }
 }
 
@@ -122,40 +97,44 @@ fn nothing() -> wb_assembly
     }
 }
 
-fn opened(answer: Opened) -> wb_opened
-    ensures { result ≡ opened_for (opened_says answer) }
+impl From<Result<Rec, Refusal>> for wb_opened {
+    ghost from_gives = { λ answer told. told ≡ opened_for (says answer) };
+
+    fn from(answer: Result<Rec, Refusal>) -> Self {
+        match answer {
+            Ok(rec) => wb_opened {
+                status: crate::ACCEPTED,
+                assembly: rec.into(),
+            },
+            Err(refusal) => wb_opened {
+                status: refusal.number(),
+                assembly: nothing(),
+            },
+        }
+    }
+}
+
+fn outcome(answer: Outcome) -> u8
+    ensures { result ≡ outcome_for answer }
 {
     match answer {
-        Opened::Open(rec) => wb_opened {
+        Outcome::Waiting => WAITING,
+        Outcome::Complete => COMPLETE,
+        Outcome::Spoilt => SPOILT,
+    }
+}
+
+fn taken(before: wb_assembly, answer: Result<Taken, Refusal>) -> wb_taken
+    ensures { result ≡ taken_for before (says answer) }
+{
+    match answer {
+        Ok(taken) => wb_taken {
             status: crate::ACCEPTED,
-            assembly: kept(rec),
+            outcome: outcome(taken.answer),
+            assembly: taken.rec.into(),
         },
-        Opened::Refused(status) => wb_opened {
-            status,
-            assembly: nothing(),
-        },
-    }
-}
-
-fn accepted(outcome: u8, rec: Rec) -> wb_taken
-    ensures { result ≡ accepted_for outcome rec }
-{
-    wb_taken {
-        status: crate::ACCEPTED,
-        outcome,
-        assembly: kept(rec),
-    }
-}
-
-fn taken(before: wb_assembly, answer: Taken) -> wb_taken
-    ensures { result ≡ taken_for before (taken_says answer) }
-{
-    match answer {
-        Taken::Waiting(rec) => accepted(WAITING, rec),
-        Taken::Complete(rec) => accepted(COMPLETE, rec),
-        Taken::Spoilt(rec) => accepted(SPOILT, rec),
-        Taken::Refused(status) => wb_taken {
-            status,
+        Err(refusal) => wb_taken {
+            status: refusal.number(),
             outcome: 0,
             assembly: before,
         },
@@ -172,25 +151,27 @@ fn stood(outcome: u8, length: usize) -> wb_progress
     }
 }
 
-fn progressed(answer: Progress) -> wb_progress
-    ensures { result ≡ progress_for (progress_says answer) }
-{
-    match answer {
-        Progress::Waiting => stood(WAITING, 0),
-        Progress::Complete(length) => stood(COMPLETE, length),
-        Progress::Spoilt => stood(SPOILT, 0),
-        Progress::Refused(status) => wb_progress {
-            status,
-            outcome: 0,
-            length: 0,
-        },
+impl From<Result<Progress, Refusal>> for wb_progress {
+    ghost from_gives = { λ answer told. told ≡ progress_for (progress_says answer) };
+
+    fn from(answer: Result<Progress, Refusal>) -> Self {
+        match answer {
+            Ok(Progress::Waiting) => stood(WAITING, 0),
+            Ok(Progress::Complete(length)) => stood(COMPLETE, length),
+            Ok(Progress::Spoilt) => stood(SPOILT, 0),
+            Err(refusal) => wb_progress {
+                status: refusal.number(),
+                outcome: 0,
+                length: 0,
+            },
+        }
     }
 }
 
 pub fn wb_assembly_open(key: Key, payload: &mut [u8], map: &mut [u8]) -> wb_opened
     ensures { AssemblyOpens key payload.old map.old result payload.new map.new }
 {
-    opened(assembly::open(key, payload, map))
+    assembly::open(key, payload, map).into()
 }
 
 pub fn wb_assembly_take(
@@ -201,11 +182,11 @@ pub fn wb_assembly_take(
 ) -> wb_taken
     ensures { AssemblyTakes before payload.old map.old packet.now result payload.new map.new }
 {
-    taken(before, assembly::take(rec_of(before), packet, payload, map))
+    taken(before, assembly::take(before.into(), packet, payload, map))
 }
 
 pub fn wb_assembly_progress(before: wb_assembly, payload: &[u8], map: &[u8]) -> wb_progress
     ensures { result ≡ progress_for (progress_answer capacity map_bytes (view (rec_of before) payload.now map.now)) }
 {
-    progressed(assembly::progress(rec_of(before), payload, map))
+    assembly::progress(before.into(), payload, map).into()
 }

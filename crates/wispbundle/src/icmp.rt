@@ -1,11 +1,13 @@
 // Echoes and replies of an ICMP flow. The answer hands the flow back, as a TCP call's does.
 ghost use Rattle.std.specs.Prelude.{◌≡◌};
-ghost use Rattle.ezpkt.specs.Icmp4.{new_icmp_flow, icmp_marked, echo_sent_says, ping_of, pong_of, pinged, ponged};
+ghost use Rattle.pkt.specs.Answers.{says};
+ghost use Rattle.ezpkt.specs.Icmp4.{new_icmp_flow, icmp_marked, ping_of, pong_of, pinged, ponged};
 ghost use Rattle.wispbundle.specs.Answers.{icmp_for};
 ghost use Rattle.wispbundle.specs.Calls.{IcmpSends};
 
 use ezpkt::Marks;
 use ezpkt::icmp4::{EchoSent, IcmpFlow};
+use pkt::refusal::Refusal;
 
 // The flow, and the packet's length.
 #[repr(C)]
@@ -16,17 +18,17 @@ pub struct wb_icmp_sent {
     pub length: usize,
 }
 
-fn sent(before: IcmpFlow, answer: EchoSent) -> wb_icmp_sent
-    ensures { result ≡ icmp_for before (echo_sent_says answer) }
+fn sent(before: IcmpFlow, answer: Result<EchoSent, Refusal>) -> wb_icmp_sent
+    ensures { result ≡ icmp_for before (says answer) }
 {
     match answer {
-        EchoSent::Packet(flow, length) => wb_icmp_sent {
+        Ok(sent) => wb_icmp_sent {
             status: crate::ACCEPTED,
-            flow,
-            length,
+            flow: sent.flow,
+            length: sent.size,
         },
-        EchoSent::Refused(status) => wb_icmp_sent {
-            status,
+        Err(refusal) => wb_icmp_sent {
+            status: refusal.number(),
             flow: before,
             length: 0,
         },

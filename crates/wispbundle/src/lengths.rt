@@ -1,9 +1,9 @@
 // The answer of a call that writes bytes, or that tells how many there would be.
 ghost use Rattle.std.specs.Prelude.{◌≡◌};
-ghost use Rattle.ezpkt.specs.Answers.{built_says};
+ghost use Rattle.pkt.specs.Answers.{says};
 ghost use Rattle.wispbundle.specs.Answers.{length_for};
 
-use ezpkt::build::Built;
+use pkt::refusal::Refusal;
 
 // How many bytes were written, or would be.
 #[repr(C)]
@@ -13,14 +13,19 @@ pub struct wb_length {
     pub length: usize,
 }
 
-pub(crate) fn built(answer: Built) -> wb_length
-    ensures { result ≡ length_for (built_says answer) }
-{
-    match answer {
-        Built::Packet(length) => wb_length {
-            status: crate::ACCEPTED,
-            length,
-        },
-        Built::Refused(status) => wb_length { status, length: 0 },
+impl From<Result<usize, Refusal>> for wb_length {
+    ghost from_gives = { λ answer told. told ≡ length_for (says answer) };
+
+    fn from(answer: Result<usize, Refusal>) -> Self {
+        match answer {
+            Ok(length) => wb_length {
+                status: crate::ACCEPTED,
+                length,
+            },
+            Err(refusal) => wb_length {
+                status: refusal.number(),
+                length: 0,
+            },
+        }
     }
 }

@@ -7,6 +7,7 @@ ghost use Rattle.wispbundle.specs.Answers.{seq_from, seq_for, pushed_for, tcp_en
 ghost use Rattle.wispbundle.specs.Calls.{TcpSends};
 
 use ezpkt::{Marks, SocketAddrV4};
+use pkt::refusal::Refusal;
 use tcp4::{Header, PushedState, Sent, Seq, TcpFlow};
 
 // The flow, and where each packet ends in the buffer: 0 for one that is not there.
@@ -49,52 +50,55 @@ fn ends(status: u8, flow: TcpFlow, first: usize, second: usize, third: usize) ->
     }
 }
 
-fn sent(before: TcpFlow, answer: Sent) -> wb_tcp_sent
+fn sent(before: TcpFlow, answer: Result<Sent, Refusal>) -> wb_tcp_sent
     ensures { result ≡ tcp_for before (sent_says answer) }
 {
     match answer {
-        Sent::One(flow, a) => ends(crate::ACCEPTED, flow, a, 0, 0),
-        Sent::Two(flow, a, b) => ends(crate::ACCEPTED, flow, a, b, 0),
-        Sent::Three(flow, a, b, c) => ends(crate::ACCEPTED, flow, a, b, c),
-        Sent::Refused(number) => ends(number, before, 0, 0, 0),
+        Ok(Sent::One(flow, a)) => ends(crate::ACCEPTED, flow, a, 0, 0),
+        Ok(Sent::Two(flow, a, b)) => ends(crate::ACCEPTED, flow, a, b, 0),
+        Ok(Sent::Three(flow, a, b, c)) => ends(crate::ACCEPTED, flow, a, b, c),
+        Err(refusal) => ends(refusal.number(), before, 0, 0, 0),
     }
 }
 
-fn seq(given: wb_seq) -> Seq
-    ensures { result ≡ seq_from given }
-{
-    if given.is_set {
-        Seq::Is(given.number)
-    } else {
-        Seq::Nothing
+impl From<wb_seq> for Seq {
+    ghost from_gives = { λ given seq. seq ≡ seq_from given };
+
+    fn from(given: wb_seq) -> Self {
+        if given.is_set {
+            Seq::Is(given.number)
+        } else {
+            Seq::Nothing
+        }
     }
 }
 
-fn old(answer: Seq) -> wb_seq
-    ensures { result ≡ seq_for answer }
-{
-    match answer {
-        Seq::Is(number) => wb_seq {
-            is_set: true,
-            number,
-        },
-        Seq::Nothing => wb_seq {
-            is_set: false,
-            number: 0,
-        },
+impl From<Seq> for wb_seq {
+    ghost from_gives = { λ seq told. told ≡ seq_for seq };
+
+    fn from(seq: Seq) -> Self {
+        match seq {
+            Seq::Is(number) => wb_seq {
+                is_set: true,
+                number,
+            },
+            Seq::Nothing => wb_seq {
+                is_set: false,
+                number: 0,
+            },
+        }
     }
 }
 
-fn both(answer: PushedState) -> wb_pushed
-    ensures { result ≡ pushed_for answer }
-{
-    let flow = answer.flow;
-    let cl = answer.cl;
-    let sv = answer.sv;
-    wb_pushed {
-        flow,
-        cl: old(cl),
-        sv: old(sv),
+impl From<PushedState> for wb_pushed {
+    ghost from_gives = { λ answer told. told ≡ pushed_for answer };
+
+    fn from(answer: PushedState) -> Self {
+        wb_pushed {
+            flow: answer.flow,
+            cl: answer.cl.into(),
+            sv: answer.sv.into(),
+        }
     }
 }
 
@@ -215,11 +219,11 @@ pub fn wb_tcp_server_hdr(flow: TcpFlow, dlen: u32, csum: u16) -> Header
 pub fn wb_tcp_push_state(flow: TcpFlow, cl_seq: wb_seq, sv_seq: wb_seq) -> wb_pushed
     ensures { result ≡ pushed_for (pushed flow (seq_from cl_seq) (seq_from sv_seq)) }
 {
-    both(flow.push_state(seq(cl_seq), seq(sv_seq)))
+    flow.push_state(cl_seq.into(), sv_seq.into()).into()
 }
 
 pub fn wb_tcp_pop_state(flow: TcpFlow, cl_seq: wb_seq, sv_seq: wb_seq) -> TcpFlow
     ensures { result ≡ popped flow (seq_from cl_seq) (seq_from sv_seq) }
 {
-    flow.pop_state(seq(cl_seq), seq(sv_seq))
+    flow.pop_state(cl_seq.into(), sv_seq.into())
 }

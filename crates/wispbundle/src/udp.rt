@@ -2,12 +2,11 @@
 ghost use Rattle.std.specs.Prelude.{◌≡◌};
 ghost use Rattle.ezpkt.specs.Udp4.{new_udp_flow, udp_marked, dgram_of};
 ghost use Rattle.ezpkt.specs.declared.build.Request.TheVariants.{Udp};
-ghost use Rattle.wispbundle.specs.Answers.{source_for, choices_of};
+ghost use Rattle.wispbundle.specs.Answers.{choices_of};
 ghost use Rattle.wispbundle.specs.Calls.{Builds};
 
-use crate::lengths;
 use crate::lengths::wb_length;
-use ezpkt::udp4::{Choices, SrcIp, UdpFlow};
+use ezpkt::udp4::{Choices, UdpFlow};
 use ezpkt::{Marks, SocketAddrV4};
 
 // The choices that go with a datagram. Where other_source is false, srcip does not count.
@@ -20,19 +19,15 @@ pub struct wb_choices {
     pub csum: bool,
 }
 
-fn source(other: bool, ip: u32) -> SrcIp
-    ensures { result ≡ source_for other ip }
-{
-    if other { SrcIp::Other(ip) } else { SrcIp::Own }
-}
+impl From<wb_choices> for Choices {
+    ghost from_gives = { λ given choices. choices ≡ choices_of given };
 
-fn choices(given: wb_choices) -> Choices
-    ensures { result ≡ choices_of given }
-{
-    Choices {
-        srcip: source(given.other_source, given.srcip),
-        frag_off: given.frag_off,
-        csum: given.csum,
+    fn from(given: wb_choices) -> Self {
+        Choices {
+            srcip: given.other_source.then_some(given.srcip),
+            frag_off: given.frag_off,
+            csum: given.csum,
+        }
     }
 }
 
@@ -56,7 +51,7 @@ pub fn wb_udp_client_dgram(
 ) -> wb_length
     ensures { Builds (Udp (dgram_of flow.marks flow.cl flow.sv (choices_of given))) bytes.now out.old result out.new }
 {
-    lengths::built(flow.client_dgram(bytes, choices(given), out))
+    flow.client_dgram(bytes, given.into(), out).into()
 }
 
 pub fn wb_udp_server_dgram(
@@ -67,5 +62,5 @@ pub fn wb_udp_server_dgram(
 ) -> wb_length
     ensures { Builds (Udp (dgram_of flow.marks flow.sv flow.cl (choices_of given))) bytes.now out.old result out.new }
 {
-    lengths::built(flow.server_dgram(bytes, choices(given), out))
+    flow.server_dgram(bytes, given.into(), out).into()
 }

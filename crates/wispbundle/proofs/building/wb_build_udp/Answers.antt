@@ -4,4 +4,4 @@ use Rattle.wispbundle.proofs.Calls.{told_to}
 use Rattle.wispbundle.proofs.building.wb_build_udp.Goals as goal
 
 pub returns : goal.returns
-returns c = told_to length_for c.built.ensures c.build.ensures
+returns c = told_to length_for c.into.ensures c.build.ensures

@@ -4,4 +4,4 @@ use Rattle.wispbundle.proofs.Calls.{told_to}
 use Rattle.wispbundle.proofs.building.wb_tail.Goals as goal
 
 pub returns : goal.returns
-returns c = told_to length_for c.built.ensures c.tail.ensures
+returns c = told_to length_for c.into.ensures c.tail.ensures

@@ -4,4 +4,4 @@ use Rattle.wispbundle.proofs.Calls.{told_to}
 use Rattle.wispbundle.proofs.captures.wb_pcap_header.Goals as goal
 
 pub returns : goal.returns
-returns c = told_to length_for c.captured.ensures c.write_header.ensures
+returns c = told_to length_for c.into.ensures c.write_header.ensures

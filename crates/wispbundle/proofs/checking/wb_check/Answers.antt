@@ -4,4 +4,4 @@ use mathlib.Core.Path.{ap, ◌∙◌}
 use Rattle.wispbundle.proofs.checking.wb_check.Goals as goal
 
 pub returns : goal.returns
-returns c = c.checked.ensures ∙ ap checked_for c.check.ensures
+returns c = c.into.ensures ∙ ap checked_for c.check.ensures

@@ -4,4 +4,4 @@ use Rattle.wispbundle.proofs.Calls.{told_to}
 use Rattle.wispbundle.proofs.dumps.wb_hex_dump.Goals as goal
 
 pub returns : goal.returns
-returns c = told_to length_for c.dumped.ensures c.hex_dump.ensures
+returns c = told_to length_for c.into.ensures c.hex_dump.ensures

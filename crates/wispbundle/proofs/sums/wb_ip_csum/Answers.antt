@@ -4,4 +4,4 @@ use mathlib.Core.Path.{ap, ◌∙◌}
 use Rattle.wispbundle.proofs.sums.wb_ip_csum.Goals as goal
 
 pub returns : goal.returns
-returns c = c.summed.ensures ∙ ap sum_for c.ip_csum.ensures
+returns c = c.into.ensures ∙ ap sum_for c.ip_csum.ensures

@@ -1,8 +1,0 @@
--- By the cases of the answer.
-use Rattle.wispbundle.proofs.tcp.old.Goals as goal
-
-pub returns-in-Is : goal.returns-in-Is
-returns-in-Is c = rw c.in-Is.is
-
-pub returns-in-Nothing : goal.returns-in-Nothing
-returns-in-Nothing c = rw c.in-Nothing.is
