@@ -2,6 +2,8 @@
 use Rattle.std.proofs.Common.{◌≡◌, ℕ, ◌+◌, ◌%◌, ◌<◌, cond, ltb, List, [], ◌∷◌, length, sym, ap, ◌∙◌, arith}
 use Rattle.pkt.specs.Answers.{refused, gives}
 use Rattle.pkt.specs.Rfc9293.{RST, ACK}
+use Rattle.pkt.specs.declared.refusal.Refusal.{Refusal}
+use Rattle.std.specs.Prelude.{Result}
 use Rattle.pkt.proofs.Deciding.{past}
 use Rattle.tcp4.specs.Tcp4.{Emit, Gone, emit, consumed, advance, after_one, after_all, any_long, size_all, ends_from, send_answer, popped, sent_says, Sends}
 use Rattle.tcp4.specs.Sequence.{Call, Leads, sending, skipping, heading, pushing, popping, Run, none, next, seq_of, Count, mine, sent_by, restart, side_of, counted, counted_all, begun, Counts, Below, SequenceLaw, NothingConsumed}
@@ -60,7 +62,7 @@ given f es room g e =
     let same : all ≡ g = cc b.1 in
     ap (λ (x : Gone). x.flow) same
 
-sent : (f : TcpFlow) (es : List Emit) (o : List ℕ) (r : Sent) (o' : List ℕ) (g : Gone) → Sends f es o r o' → sent_says r ≡ gives g
+sent : (f : TcpFlow) (es : List Emit) (o : List ℕ) (r : Result Sent Refusal) (o' : List ℕ) (g : Gone) → Sends f es o r o' → sent_says r ≡ gives g
     → after_all f es ≡ g.flow
 sent f es o r o' g x e = given f es (length o) g (sym x.answer ∙ e)
 

@@ -1,7 +1,8 @@
 -- The sequence numbers of a flow over many calls: document 01, 'Sequence state'.
-use Rattle.std.specs.Prelude.{◌≡◌, ℕ, ◌+◌, ◌%◌, ◌<◌, List, [], ◌∷◌, length}
+use Rattle.std.specs.Prelude.{◌≡◌, ℕ, ◌+◌, ◌%◌, ◌<◌, List, [], ◌∷◌, length, Result}
 use Rattle.pkt.specs.Answers.{Answer, refused, gives}
 use Rattle.pkt.specs.Rfc9293.{RST, ACK}
+use Rattle.pkt.specs.declared.refusal.Refusal.{Refusal}
 use Rattle.tcp4.specs.Tcp4.{Emit, Gone, emit, consumed, advance, after_one, sent_says, Sends, headed, pushed, popped}
 use Rattle.tcp4.specs.declared.TcpFlow.{TcpFlow}
 use Rattle.tcp4.specs.declared.Header.{Header}
@@ -40,7 +41,7 @@ pub data Call : Type 0 where
 -- promise that it makes:
 pub data Leads : TcpFlow → Call → TcpFlow → Type 0 where
   -- `open`, the closes, the messages, the data segments, the acknowledgments and the resets,
-  sending : (f : TcpFlow) (es : List Emit) (o : List ℕ) (r : Sent) (o' : List ℕ) (g : Gone) → Sends f es o r o' → sent_says r ≡ gives g
+  sending : (f : TcpFlow) (es : List Emit) (o : List ℕ) (r : Result Sent Refusal) (o' : List ℕ) (g : Gone) → Sends f es o r o' → sent_says r ≡ gives g
       → Leads f (sends es) g.flow
   -- `client_hole`, `server_hole`,
   skipping : (f : TcpFlow) (s : Side) (n : ℕ) (r : TcpFlow) → r ≡ advance s n f → Leads f (hole s n) r
@@ -118,7 +119,7 @@ SequenceLaw =
 -- a call that sends a packet with these flags and no payload, and is accepted, answers the flow before it
 abbrev pub KeepsFlow : ℕ → Type 0
 KeepsFlow flags =
-    (f : TcpFlow) (s : Side) (o : List ℕ) (r : Sent) (o' : List ℕ) (g : Gone) → seq_of s f < 4294967296 → Sends f (emit s flags 0 [] ∷ []) o r o'
+    (f : TcpFlow) (s : Side) (o : List ℕ) (r : Result Sent Refusal) (o' : List ℕ) (g : Gone) → seq_of s f < 4294967296 → Sends f (emit s flags 0 [] ∷ []) o r o'
     → sent_says r ≡ gives g → g.flow ≡ f
 
 -- "Acknowledgments and resets consume nothing."

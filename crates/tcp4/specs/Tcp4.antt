@@ -1,8 +1,10 @@
 -- Segments of a flow, and its sequence numbers: document 01, 'Bytes of a header' and 'Sequence state'.
-use Rattle.std.specs.Prelude.{◌≡◌, ℕ, ◌+◌, ◌/◌, ◌%◌, Bool, true, false, cond, ◌||◌, List, [], ◌∷◌, ◌++◌, length, ◌==◌, nat_lt}
+use Rattle.std.specs.Prelude.{◌≡◌, ℕ, ◌+◌, ◌/◌, ◌%◌, Bool, true, false, cond, ◌||◌, List, [], ◌∷◌, ◌++◌, length, ◌==◌, nat_lt, Result, Ok, Err}
 use Rattle.pkt.specs.Answers.{Answer, refused, gives, most_tcp}
 use Rattle.pkt.specs.Rfc9293.{tcp_header, FIN, SYN, PSH, ACK}
+use Rattle.pkt.specs.Refusal.{number_of}
 use Rattle.pkt.specs.Written.{written, Wrote}
+use Rattle.pkt.specs.declared.refusal.Refusal.{Refusal}
 use Rattle.ezpkt.specs.Build.{unmarked, tcp_hdr_of, tcp_packet}
 use Rattle.ezpkt.specs.declared.Marks.{Marks}
 use Rattle.ezpkt.specs.declared.SocketAddrV4.{SocketAddrV4}
@@ -15,7 +17,7 @@ use Rattle.tcp4.specs.declared.Side.TheVariants.{Client, Server}
 use Rattle.tcp4.specs.declared.Seq.{Seq}
 use Rattle.tcp4.specs.declared.Seq.TheVariants.{Is, Nothing}
 use Rattle.tcp4.specs.declared.Sent.{Sent}
-use Rattle.tcp4.specs.declared.Sent.TheVariants.{One, Two, Three, Refused}
+use Rattle.tcp4.specs.declared.Sent.TheVariants.{One, Two, Three}
 
 abbrev pub new_tcp_flow : SocketAddrV4 → SocketAddrV4 → ℕ → ℕ → TcpFlow
 new_tcp_flow cl sv c s = record { cl = cl; sv = sv; cl_seq = c; sv_seq = s; marks = unmarked }
@@ -115,11 +117,11 @@ pub record Gone : Type 0 where
   pub flow : TcpFlow
   pub ends : List ℕ
 
-abbrev pub sent_says : Sent → Answer Gone
-sent_says (One f a) = gives (record { flow = f; ends = a ∷ [] })
-sent_says (Two f a b) = gives (record { flow = f; ends = a ∷ b ∷ [] })
-sent_says (Three f a b c) = gives (record { flow = f; ends = a ∷ b ∷ c ∷ [] })
-sent_says (Refused n) = refused n
+abbrev pub sent_says : Result Sent Refusal → Answer Gone
+sent_says (Ok (One f a)) = gives (record { flow = f; ends = a ∷ [] })
+sent_says (Ok (Two f a b)) = gives (record { flow = f; ends = a ∷ b ∷ [] })
+sent_says (Ok (Three f a b c)) = gives (record { flow = f; ends = a ∷ b ∷ c ∷ [] })
+sent_says (Err e) = refused (number_of e)
 
 -- Refusals 1 and 3; else all of them.
 abbrev pub send_answer : TcpFlow → List Emit → ℕ → Answer Gone
@@ -128,7 +130,7 @@ send_answer f es room =
     (cond (nat_lt room (size_all es)) (refused 3) (gives (record { flow = after_all f es; ends = ends_from 0 es })))
 
 -- A call's whole promise: a flow, the packets to send, the buffer before; the answer and the buffer after.
-abbrev pub Sends : TcpFlow → List Emit → List ℕ → Sent → List ℕ → Type 0
+abbrev pub Sends : TcpFlow → List Emit → List ℕ → Result Sent Refusal → List ℕ → Type 0
 Sends f es o r o' = Wrote sent_says (send_answer f es (length o)) (sent_bytes f es) o r o'
 
 -- ---- the calls of a flow

@@ -9,7 +9,8 @@ ghost use Rattle.tcp4.specs.declared.Side.TheVariants.{Client, Server};
 
 use ezpkt::build::{Request, TcpSegment};
 use ezpkt::{Marks, SocketAddrV4, build, part};
-use pkt::{ipv4, limit, refusal};
+use pkt::refusal::Refusal;
+use pkt::{ipv4, limit};
 
 const SYN_ACK: u8 = ipv4::TCP_SYN + ipv4::TCP_ACK;
 
@@ -34,16 +35,15 @@ pub struct TcpFlow {
     pub marks: Marks,
 }
 
-// The flow after_one one, two or three packets and where each packet ends, or the number of the refusal.
+// The flow after one, two or three packets, and where each packet ends.
 #[derive(Clone, Copy, Drop)]
 pub enum Sent {
     One(TcpFlow, usize),
     Two(TcpFlow, usize, usize),
     Three(TcpFlow, usize, usize, usize),
-    Refused(u8),
 }
 
-// A sequence number for one side, or nothing for it.
+// A sequence number for one side, or nothing for it. An enum, as the scope paper has it, and no Option.
 #[derive(Clone, Copy, Drop)]
 pub enum Seq {
     Is(u32),
@@ -154,9 +154,7 @@ impl TcpFlow {
     pub fn marked(self, marks: Marks) -> Self
         ensures { result ≡ tcp_marked self marks }
     {
-        let mut next = self;
-        next.marks = marks;
-        next
+        Self { marks, ..self }
     }
 
     // The segment that a side sends next, with these flags.
@@ -176,16 +174,15 @@ impl TcpFlow {
     fn update(self, side: Side, bytes: u32) -> Self
         ensures { result ≡ advance side bytes self }
     {
-        let mut next = self;
         match side {
-            Side::Client => {
-                next.cl_seq = std::num::wrapping_add_u32(self.cl_seq, bytes);
-                next
-            }
-            Side::Server => {
-                next.sv_seq = std::num::wrapping_add_u32(self.sv_seq, bytes);
-                next
-            }
+            Side::Client => Self {
+                cl_seq: self.cl_seq.wrapping_add(bytes),
+                ..self
+            },
+            Side::Server => Self {
+                sv_seq: self.sv_seq.wrapping_add(bytes),
+                ..self
+            },
         }
     }
 
@@ -194,58 +191,62 @@ impl TcpFlow {
         requires { (length payload.now ≤ most_tcp) × (40 + length payload.now ≤ length out.old) }
         ensures { SendsOne self (emit side flags frag_off payload.now) out.old result out.new }
     {
-        build::build(
-            Request::Tcp(self.segment(side, flags, frag_off)),
-            payload,
-            out,
-        );
+        let segment = self.segment(side, flags, frag_off);
+        let _ = build::build(Request::Tcp(segment), payload, out); // it fits, and is not refused
         self.update(side, seq_consumed(flags, payload.len() as u32))
     }
 
     // One packet.
-    fn one(self, side: Side, flags: u8, frag_off: u16, payload: &[u8], out: &mut [u8]) -> Sent
+    fn one(
+        self,
+        side: Side,
+        flags: u8,
+        frag_off: u16,
+        payload: &[u8],
+        out: &mut [u8],
+    ) -> Result<Sent, Refusal>
         ensures { Sends self (emit side flags frag_off payload.now ∷ []) out.old result out.new }
     {
         let n = payload.len();
         if n > limit::TCP_PAYLOAD {
-            return Sent::Refused(refusal::TOO_LONG);
+            return Err(Refusal::TooLong);
         }
         let end = 40 + n;
         if out.len() < end {
-            return Sent::Refused(refusal::NO_ROOM);
+            return Err(Refusal::NoRoom);
         }
         let flow = self.tx(side, flags, frag_off, payload, out);
-        Sent::One(flow, end)
+        Ok(Sent::One(flow, end))
     }
 
     // A message, and the other side's acknowledgment of it.
-    fn two(self, side: Side, frag_off: u16, payload: &[u8], out: &mut [u8]) -> Sent
+    fn two(self, side: Side, frag_off: u16, payload: &[u8], out: &mut [u8]) -> Result<Sent, Refusal>
         ensures { Sends self (message_of side true frag_off payload.now) out.old result out.new }
     {
         let n = payload.len();
         if n > limit::TCP_PAYLOAD {
-            return Sent::Refused(refusal::TOO_LONG);
+            return Err(Refusal::TooLong);
         }
         let end = 40 + n;
         if out.len() < end + 40 {
-            return Sent::Refused(refusal::NO_ROOM);
+            return Err(Refusal::NoRoom);
         }
         let sent = self.tx(side, PSH_ACK, frag_off, payload, out);
         let flow = sent.tx(other_side(side), ipv4::TCP_ACK, 0, b"", &mut out[end..]);
-        Sent::Two(flow, end, end + 40)
+        Ok(Sent::Two(flow, end, end + 40))
     }
 
     // Three packets with no payload, from one side, the other and the first again, the last an acknowledgment.
-    fn three(self, side: Side, first: u8, second: u8, out: &mut [u8]) -> Sent
+    fn three(self, side: Side, first: u8, second: u8, out: &mut [u8]) -> Result<Sent, Refusal>
         ensures { Sends self (exchange side first second) out.old result out.new }
     {
         if out.len() < 120 {
-            return Sent::Refused(refusal::NO_ROOM);
+            return Err(Refusal::NoRoom);
         }
         let one = self.tx(side, first, 0, b"", out);
         let two = one.tx(other_side(side), second, 0, b"", &mut out[40..]);
         let flow = two.tx(side, ipv4::TCP_ACK, 0, b"", &mut out[80..]);
-        Sent::Three(flow, 40, 80, 120)
+        Ok(Sent::Three(flow, 40, 80, 120))
     }
 
     fn message(
@@ -255,7 +256,7 @@ impl TcpFlow {
         send_ack: bool,
         frag_off: u16,
         out: &mut [u8],
-    ) -> Sent
+    ) -> Result<Sent, Refusal>
         ensures { Sends self (message_of side send_ack frag_off bytes.now) out.old result out.new }
     {
         if send_ack {
@@ -290,10 +291,11 @@ impl TcpFlow {
     pub fn pop_state(self, cl_seq: Seq, sv_seq: Seq) -> Self
         ensures { result ≡ popped self cl_seq sv_seq }
     {
-        let mut next = self;
-        next.cl_seq = chosen(cl_seq, self.cl_seq);
-        next.sv_seq = chosen(sv_seq, self.sv_seq);
-        next
+        Self {
+            cl_seq: chosen(cl_seq, self.cl_seq),
+            sv_seq: chosen(sv_seq, self.sv_seq),
+            ..self
+        }
     }
 
     // The client's number moved on by bytes that are not sent.
@@ -311,28 +313,28 @@ impl TcpFlow {
     }
 
     // One segment with bytes from the client, with PSH and ACK.
-    pub fn client_data_segment(self, bytes: &[u8], out: &mut [u8]) -> Sent
+    pub fn client_data_segment(self, bytes: &[u8], out: &mut [u8]) -> Result<Sent, Refusal>
         ensures { Sends self (emit Client (PSH + ACK) 0 bytes.now ∷ []) out.old result out.new }
     {
         self.one(Side::Client, PSH_ACK, 0, bytes, out)
     }
 
     // One segment with bytes from the server, with PSH and ACK.
-    pub fn server_data_segment(self, bytes: &[u8], out: &mut [u8]) -> Sent
+    pub fn server_data_segment(self, bytes: &[u8], out: &mut [u8]) -> Result<Sent, Refusal>
         ensures { Sends self (emit Server (PSH + ACK) 0 bytes.now ∷ []) out.old result out.new }
     {
         self.one(Side::Server, PSH_ACK, 0, bytes, out)
     }
 
     // The client's acknowledgment. Its number stays.
-    pub fn client_ack(self, out: &mut [u8]) -> Sent
+    pub fn client_ack(self, out: &mut [u8]) -> Result<Sent, Refusal>
         ensures { Sends self (emit Client ACK 0 [] ∷ []) out.old result out.new }
     {
         self.one(Side::Client, ipv4::TCP_ACK, 0, b"", out)
     }
 
     // The server's acknowledgment. Its number stays.
-    pub fn server_ack(self, out: &mut [u8]) -> Sent
+    pub fn server_ack(self, out: &mut [u8]) -> Result<Sent, Refusal>
         ensures { Sends self (emit Server ACK 0 [] ∷ []) out.old result out.new }
     {
         self.one(Side::Server, ipv4::TCP_ACK, 0, b"", out)
@@ -353,49 +355,61 @@ impl TcpFlow {
     }
 
     // SYN from the client, SYN and ACK from the server, ACK from the client.
-    pub fn open(self, out: &mut [u8]) -> Sent
+    pub fn open(self, out: &mut [u8]) -> Result<Sent, Refusal>
         ensures { Sends self opening out.old result out.new }
     {
         self.three(Side::Client, ipv4::TCP_SYN, SYN_ACK, out)
     }
 
     // FIN and ACK from the client, FIN and ACK from the server, ACK from the client.
-    pub fn client_close(self, out: &mut [u8]) -> Sent
+    pub fn client_close(self, out: &mut [u8]) -> Result<Sent, Refusal>
         ensures { Sends self (closing Client) out.old result out.new }
     {
         self.three(Side::Client, FIN_ACK, FIN_ACK, out)
     }
 
     // FIN and ACK from the server, FIN and ACK from the client, ACK from the server.
-    pub fn server_close(self, out: &mut [u8]) -> Sent
+    pub fn server_close(self, out: &mut [u8]) -> Result<Sent, Refusal>
         ensures { Sends self (closing Server) out.old result out.new }
     {
         self.three(Side::Server, FIN_ACK, FIN_ACK, out)
     }
 
     // The client's reset: RST alone, acknowledgment number 0. Its number stays.
-    pub fn client_reset(self, out: &mut [u8]) -> Sent
+    pub fn client_reset(self, out: &mut [u8]) -> Result<Sent, Refusal>
         ensures { Sends self (emit Client RST 0 [] ∷ []) out.old result out.new }
     {
         self.one(Side::Client, ipv4::TCP_RST, 0, b"", out)
     }
 
     // The server's reset: RST alone, acknowledgment number 0. Its number stays.
-    pub fn server_reset(self, out: &mut [u8]) -> Sent
+    pub fn server_reset(self, out: &mut [u8]) -> Result<Sent, Refusal>
         ensures { Sends self (emit Server RST 0 [] ∷ []) out.old result out.new }
     {
         self.one(Side::Server, ipv4::TCP_RST, 0, b"", out)
     }
 
     // A message from the client, with its whole flags and offset field, and the server's acknowledgment if it is asked for.
-    pub fn client_message(self, bytes: &[u8], send_ack: bool, frag_off: u16, out: &mut [u8]) -> Sent
+    pub fn client_message(
+        self,
+        bytes: &[u8],
+        send_ack: bool,
+        frag_off: u16,
+        out: &mut [u8],
+    ) -> Result<Sent, Refusal>
         ensures { Sends self (message_of Client send_ack frag_off bytes.now) out.old result out.new }
     {
         self.message(Side::Client, bytes, send_ack, frag_off, out)
     }
 
     // A message from the server, with its whole flags and offset field, and the client's acknowledgment if it is asked for.
-    pub fn server_message(self, bytes: &[u8], send_ack: bool, frag_off: u16, out: &mut [u8]) -> Sent
+    pub fn server_message(
+        self,
+        bytes: &[u8],
+        send_ack: bool,
+        frag_off: u16,
+        out: &mut [u8],
+    ) -> Result<Sent, Refusal>
         ensures { Sends self (message_of Server send_ack frag_off bytes.now) out.old result out.new }
     {
         self.message(Side::Server, bytes, send_ack, frag_off, out)
