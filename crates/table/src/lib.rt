@@ -105,13 +105,10 @@ fn holds(s: Slot, key: Key) -> bool
 fn key_from(t: [Slot; 8], from: usize, key: Key) -> Option<usize>
     ensures { result ≡ key_from from key (drop from t) }
 {
-    let mut i = from;
-    while i < 8 {
-        let s = t[i];
-        if holds(s, key) {
+    for i in from..8 {
+        if holds(t[i], key) {
             return Some(i);
         }
-        i = i + 1;
     }
     None
 }
@@ -120,13 +117,10 @@ fn key_from(t: [Slot; 8], from: usize, key: Key) -> Option<usize>
 fn free_one(t: [Slot; 8]) -> Option<usize>
     ensures { result ≡ free_from 0 t }
 {
-    let mut i: usize = 0;
-    while i < 8 {
-        let s = t[i];
+    for (i, s) in t.iter().enumerate() {
         if !s.used {
             return Some(i);
         }
-        i = i + 1;
     }
     None
 }
@@ -144,13 +138,10 @@ fn slot_fits(s: Slot) -> bool
 fn all_fit(t: [Slot; 8]) -> bool
     ensures { result ≡ all_fit t }
 {
-    let mut i: usize = 0;
-    while i < 8 {
-        let s = t[i];
+    for s in t {
         if !slot_fits(s) {
             return false;
         }
-        i = i + 1;
     }
     true
 }
@@ -171,13 +162,10 @@ fn key_again(s: Slot, t: [Slot; 8], from: usize) -> bool
 fn key_twice(t: [Slot; 8]) -> bool
     ensures { result ≡ key_twice t }
 {
-    let mut i: usize = 0;
-    while i < 8 {
-        let s = t[i];
-        if key_again(s, t, i + 1) {
+    for (i, s) in t.iter().enumerate() {
+        if key_again(*s, t, i + 1) {
             return true;
         }
-        i = i + 1;
     }
     false
 }
