@@ -34,7 +34,7 @@ pub struct Key {
 }
 
 // What is kept of an assembly beside its payload buffer and its map.
-#[derive(Clone, Copy, Drop)]
+#[derive(Clone, Copy, PartialEq, Eq, Drop)]
 pub struct Rec {
     pub key: Key,
     pub total: Option<usize>,

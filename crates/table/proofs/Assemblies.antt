@@ -1,9 +1,9 @@
 -- A table that is not refused by 11, and the assembly of each key in it: what storing a slot does to them.
+use Rattle.std.specs.Prelude.{Option, None, Some}
 use mathlib.Core.Path.{◌≡◌, refl, sym, ap, subst, ◌∙◌}
 use mathlib.Core.Logic.{◌≢◌}
 use mathlib.Core.Bool.{Bool, true, false, cond}
 use mathlib.Core.List.{List}
-use mathlib.Core.Option.{Option, none, some}
 use Prim.Native.Nat.{ℕ, zero, suc, ◌*◌, ◌<◌}
 use native.Mathlib.Decide.{ℕ_discrete}
 use native.Mathlib.Omega.{arith}
@@ -17,8 +17,6 @@ use Rattle.assembly.specs.Carried.{same_key}
 use Rattle.assembly.specs.View.{view}
 use Rattle.assembly.proofs.Carrying.{is_same}
 use Rattle.table.specs.declared.Slot.{Slot}
-use Rattle.table.specs.declared.Found.{Found}
-use Rattle.table.specs.declared.Found.TheVariants.{At, Absent}
 use Rattle.table.specs.Slots.{slots, slot_bytes, slot_map, with_part, free_slot, state_at, slot_fits, key_from, table_fits}
 use Rattle.table.specs.Mixed.{assembly_at, assembly_of}
 use Rattle.table.proofs.Places.{with_length, place_same, part_other}
@@ -69,27 +67,27 @@ empty_sound d m e q =
 -- ---- the assembly of a key
 
 -- that of the slot which has it
-pub assembly_at_lem : (t : List Slot) (d m : List ℕ) → Distinct t → (i : ℕ) (k : Key) → Has t i k → assembly_of t d m k ≡ some (state_at t d m i)
+pub assembly_at_lem : (t : List Slot) (d m : List ℕ) → Distinct t → (i : ℕ) (k : Key) → Has t i k → assembly_of t d m k ≡ Some (state_at t d m i)
 unfolding Distinct
 assembly_at_lem t d m h i k a = go (key_from 0 k t) refl
   where
-    go : (f : Found) → key_from 0 k t ≡ f → assembly_at t d m f ≡ some (state_at t d m i)
-    go (At j) e = ap (λ (n : ℕ). some (state_at t d m n)) (h j i k (key_found k t j e) a)
-    go Absent e = absurd (key_absent 0 k t e i a)
+    go : (f : Option ℕ) → key_from 0 k t ≡ f → assembly_at t d m f ≡ Some (state_at t d m i)
+    go (Some j) e = ap (λ (n : ℕ). Some (state_at t d m n)) (h j i k (key_found k t j e) a)
+    go None e = absurd (key_absent 0 k t e i a)
 
 -- none where no slot has it
-pub assembly_none : (t : List Slot) (d m : List ℕ) (k : Key) → ((i : ℕ) → Has t i k → ⊥) → assembly_of t d m k ≡ none
+pub assembly_none : (t : List Slot) (d m : List ℕ) (k : Key) → ((i : ℕ) → Has t i k → ⊥) → assembly_of t d m k ≡ None
 assembly_none t d m k h = go (key_from 0 k t) refl
   where
-    go : (f : Found) → key_from 0 k t ≡ f → assembly_at t d m f ≡ none
-    go (At j) e = absurd (h j (key_found k t j e))
-    go Absent e = refl
+    go : (f : Option ℕ) → key_from 0 k t ≡ f → assembly_at t d m f ≡ None
+    go (Some j) e = absurd (h j (key_found k t j e))
+    go None e = refl
 
 -- ---- the slot x is stored as slot i, with the parts p and q of the buffers
 
 -- the assembly in it
 abbrev pub held_in : Slot → List ℕ → List ℕ → Option State
-held_in x p q = cond x.used (some (view x.rec p q)) none
+held_in x p q = cond x.used (Some (view x.rec p q)) None
 
 -- slot i was free or had the key k, no other slot has that key, and x is free or has it
 pub record Stores (t : List Slot) (d m : List ℕ) (i : ℕ) (k : Key) (x : Slot) (p q : List ℕ) : Type 0 where
@@ -177,19 +175,19 @@ module _ (t : List Slot) (d m : List ℕ) (i : ℕ) (k : Key) (x : Slot) (p q : 
   abbrev After : Key → Option State
   After j = cond (same_key k j) (held_in x p q) (assembly_of t d m j)
 
-  after_found : (n : ℕ) (j : Key) → Has t' n j → some (state_at t' d' m' n) ≡ After j
+  after_found : (n : ℕ) (j : Key) → Has t' n j → Some (state_at t' d' m' n) ≡ After j
   unfolding t'
   after_found n j a = go (ℕ_discrete n i)
     where
-      go : Dec (n ≡ i) → some (state_at t' d' m' n) ≡ After j
+      go : Dec (n ≡ i) → Some (state_at t' d' m' n) ≡ After j
       go (yes e) =
           let h = here j (rw e at a) in
-          rw e (ap some state_same ∙ sym (pick_yes _ none h.0) ∙ sym (pick_yes _ _ (is_same k j h.1)))
+          rw e (ap Some state_same ∙ sym (pick_yes _ None h.0) ∙ sym (pick_yes _ _ (is_same k j h.1)))
       go (no e) =
           let c : Has t n j = has_other t i x n j e a in
-          ap some (state_other n e) ∙ sym (assembly_at_lem t d m s.sound.distinct n j c) ∙ sym (pick_no _ _ (else n j e c))
+          ap Some (state_other n e) ∙ sym (assembly_at_lem t d m s.sound.distinct n j c) ∙ sym (pick_no _ _ (else n j e c))
 
-  after_absent : (j : Key) → ((n : ℕ) → Has t' n j → ⊥) → none ≡ After j
+  after_absent : (j : Key) → ((n : ℕ) → Has t' n j → ⊥) → None ≡ After j
   unfolding t'
   after_absent j h = go (same_key k j) refl
     where
@@ -200,7 +198,7 @@ module _ (t : List Slot) (d m : List ℕ) (i : ℕ) (k : Key) (x : Slot) (p q : 
       gone b n a (yes e) = both (is_same k j (sym (s.own j (rw e at a)))) b
       gone b n a (no e) = h n (other_has t i x n j e a)
 
-      go : (b : Bool) → same_key k j ≡ b → none ≡ After j
+      go : (b : Bool) → same_key k j ≡ b → None ≡ After j
       go true e = sym (pick_no _ _ (unused (same_is k j e))) ∙ sym (pick_yes _ _ e)
       go false e = sym (assembly_none t d m j (λ n a. gone e n a (ℕ_discrete n i))) ∙ sym (pick_no _ _ e)
 
@@ -209,6 +207,6 @@ module _ (t : List Slot) (d m : List ℕ) (i : ℕ) (k : Key) (x : Slot) (p q : 
   unfolding t' d' m'
   stored_assembly j = go (key_from 0 j (set t i x)) refl
     where
-      go : (f : Found) → key_from 0 j (set t i x) ≡ f → assembly_at (set t i x) (with_part slot_bytes i p d) (with_part slot_map i q m) f ≡ After j
-      go (At n) e = after_found n j (key_found j (set t i x) n e)
-      go Absent e = after_absent j (λ n a. key_absent 0 j (set t i x) e n a)
+      go : (f : Option ℕ) → key_from 0 j (set t i x) ≡ f → assembly_at (set t i x) (with_part slot_bytes i p d) (with_part slot_map i q m) f ≡ After j
+      go (Some n) e = after_found n j (key_found j (set t i x) n e)
+      go None e = after_absent j (λ n a. key_absent 0 j (set t i x) e n a)

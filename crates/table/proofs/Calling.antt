@@ -1,4 +1,5 @@
 -- What each call of a table leads to, by what its steps answered.
+use Rattle.std.specs.Prelude.{Option, None, Some, Result, Ok, Err}
 use mathlib.Core.Path.{◌≡◌, refl, sym, ap, ◌∙◌, subst}
 use mathlib.Core.Bool.{Bool, true, false, cond}
 use mathlib.Core.List.{List}
@@ -6,11 +7,12 @@ use Prim.Native.Nat.{ℕ, ◌+◌, ◌*◌, ◌<◌, ◌≤◌}
 use native.Mathlib.Omega.{arith}
 use lib.Dec.{ltb}
 use lib.ListN.{length, get_or, set, length-replicate}
-use Rattle.pkt.specs.Answers.{Answer, refused, gives, and_then, mapped}
+use Rattle.pkt.specs.Answers.{Answer, refused, gives, and_then, mapped, says}
+use Rattle.pkt.specs.Refusal.{number_of}
+use Rattle.pkt.specs.declared.refusal.Refusal.{Refusal}
 use Rattle.pkt.specs.Written.{zeros}
 use Rattle.pkt.proofs.Choice.{pick_yes, pick_no}
 use Rattle.pkt.proofs.Deciding.{past}
-use Rattle.inspect.specs.Header.{read_answer, data_of}
 use Rattle.inspect.specs.declared.header.IpRead.{IpRead}
 use Rattle.assembly.specs.declared.Key.{Key}
 use Rattle.assembly.specs.declared.Rec.{Rec}
@@ -19,16 +21,13 @@ use Rattle.assembly.specs.Piece.{Piece}
 use Rattle.assembly.specs.Carried.{key_of, broken, fit_answer}
 use Rattle.assembly.specs.View.{view, record_of, piece}
 use Rattle.table.specs.declared.Slot.{Slot}
-use Rattle.table.specs.declared.Found.{Found}
-use Rattle.table.specs.declared.Found.TheVariants.{At, Absent}
 use Rattle.table.specs.declared.Landing.{Landing}
 use Rattle.table.specs.declared.Placed.{Placed}
 use Rattle.table.specs.declared.Discarded.{Discarded}
-use Rattle.table.specs.declared.Gone.TheVariants.{Done}
 use Rattle.table.specs.declared.TakenOut.{TakenOut}
-use Rattle.table.specs.Slots.{slots, slot_bytes, slot_map, part_of, with_part, free_slot, state_at, key_from, free_from, table_fits, Sized}
-use Rattle.table.specs.Steps.{landing_says, Lands, FitsSlot, OutOf}
-use Rattle.table.specs.Table.{stepped_says, Placing, placing, opened_at, placed_at, place_for, stepped_by, piece_for, table_take, Tables, gone_says, held_for, discard_answer, slots_without, part_without, Discards, out_says, Outing, out_of, out_answer, slot_in, datagram_in, TakesOut}
+use Rattle.table.specs.Slots.{slot_bytes, slot_map, part_of, with_part, free_slot, state_at, key_from, free_from, table_fits, Sized}
+use Rattle.table.specs.Steps.{landing_of, Lands, FitsSlot, OutOf}
+use Rattle.table.specs.Table.{Placing, placing, opened_at, placed_at, place_for, stepped_by, piece_for, table_take, Tables, held_for, discard_answer, slots_without, part_without, Discards, Outing, out_of, out_answer, slot_in, datagram_in, TakesOut}
 use Rattle.table.proofs.Lowest.{past as past-slot, read_within}
 use Rattle.table.proofs.Parts.{part_back, part_again}
 use Rattle.table.proofs.Stepping.{any_number}
@@ -38,15 +37,21 @@ pub tables_as : (a b : Answer Placing) (t : List Slot) (d m : List ℕ) (r : Pla
 tables_as a b t d m r d' m' e x = subst (λ (y : Answer Placing). Tables y t d m r d' m') (sym e) x
 
 -- a refusal leaves all as it was
-pub refused_tables : (n : ℕ) (t : List Slot) (d m : List ℕ) (r : Placed) → (r.table ≡ t) × (stepped_says r.answer ≡ refused n) → Tables (refused n) t d m r d m
+pub refused_tables : (n : ℕ) (t : List Slot) (d m : List ℕ) (r : Placed) → (r.table ≡ t) × (says r.answer ≡ refused n) → Tables (refused n) t d m r d m
 refused_tables n t d m r e = record { answer = e.1; slots_are = e.0; payloads_are = refl; maps_are = refl }
 
 -- the same before anything is stored
-pub lands_as : (a b : Answer Placing) (d m : List ℕ) (x : Landing) (d' m' : List ℕ) → a ≡ b → Lands b d m x d' m' → Lands a d m x d' m'
+pub lands_as : (a b : Answer Placing) (d m : List ℕ) (x : Result Landing Refusal) (d' m' : List ℕ) → a ≡ b → Lands b d m x d' m' → Lands a d m x d' m'
 lands_as a b d m x d' m' e l = subst (λ (y : Answer Placing). Lands y d m x d' m') (sym e) l
 
-pub refused_lands : (n : ℕ) (d m : List ℕ) (x : Landing) → (x.slot < slots) × (landing_says x ≡ refused n) → Lands (refused n) d m x d m
-refused_lands n d m x e = record { below = e.0; answer = e.1; payloads_are = refl; maps_are = refl }
+pub refused_lands : (e : Refusal) (d m : List ℕ) → Lands (refused (number_of e)) d m (Err e) d m
+refused_lands e d m =
+    record {
+      below = λ y q. let z : ◌≡◌ {A = ℕ} 0 1 = cc in absurd (omega arith);
+      answer = refl;
+      payloads_are = refl;
+      maps_are = refl;
+    }
 
 -- ---- 9 and 20
 
@@ -64,7 +69,7 @@ fits_slot far n h p e =
     any_number slot_bytes far 20 n p (ap (fit_answer slot_bytes far n) same ∙ e)
 
 module _ (t : List Slot) (d m : List ℕ) (h : IpRead) (b : List ℕ) where
-  pub piece_refused : (n : ℕ) → fit_answer slot_bytes 20 (length b) h ≡ refused n → piece_for t d m h b ≡ refused n
+  pub piece_refused : (e : Refusal) → fit_answer slot_bytes 20 (length b) h ≡ refused (number_of e) → piece_for t d m h b ≡ refused (number_of e)
   unfolding piece_for
   piece_refused n e = ap (λ (x : Answer IpRead). and_then x (λ g. mapped (stepped_by (piece h.off h.mf b)) (place_for t d m (key_of h)))) e
 
@@ -82,35 +87,31 @@ module _ (t : List Slot) (d m l : List ℕ) where
   unfolding table_take
   table_eleven e = pick_no _ _ e
 
-  pub table_refused : (n : ℕ) → table_fits t (length d) (length m) ≡ true → read_answer l ≡ refused n → table_take t d m l ≡ refused n
+  pub table_usable : table_fits t (length d) (length m) ≡ true → table_take t d m l ≡ landing_of t d m l
   unfolding table_take
-  table_refused n u e = pick_yes _ _ u ∙ ap (λ (x : Answer IpRead). and_then x (λ h. piece_for t d m h (data_of h l))) e
-
-  pub table_read : (h : IpRead) → table_fits t (length d) (length m) ≡ true → read_answer l ≡ gives h → table_take t d m l ≡ piece_for t d m h (data_of h l)
-  unfolding table_take
-  table_read h u e = pick_yes _ _ u ∙ ap (λ (x : Answer IpRead). and_then x (λ g. piece_for t d m g (data_of g l))) e
+  table_usable u = pick_yes _ _ u
 
 -- ---- the slot
 
 module _ (t : List Slot) (d m : List ℕ) (k : Key) (p : Piece) where
   -- no slot has the key
-  pub place_new : key_from 0 k t ≡ Absent → mapped (stepped_by p) (place_for t d m k) ≡ mapped (stepped_by p) (opened_at k (free_from 0 t))
-  place_new e = ap (λ (f : Found). mapped (stepped_by p) (placed_at t d m k f)) e
+  pub place_new : key_from 0 k t ≡ None → mapped (stepped_by p) (place_for t d m k) ≡ mapped (stepped_by p) (opened_at k (free_from 0 t))
+  place_new e = ap (λ (f : Option ℕ). mapped (stepped_by p) (placed_at t d m k f)) e
 
   -- slot i has it
-  pub place_at : (i : ℕ) → key_from 0 k t ≡ At i → mapped (stepped_by p) (place_for t d m k) ≡ gives (placing i (step (state_at t d m i) p))
-  place_at i e = ap (λ (f : Found). mapped (stepped_by p) (placed_at t d m k f)) e
+  pub place_at : (i : ℕ) → key_from 0 k t ≡ Some i → mapped (stepped_by p) (place_for t d m k) ≡ gives (placing i (step (state_at t d m i) p))
+  place_at i e = ap (λ (f : Option ℕ). mapped (stepped_by p) (placed_at t d m k f)) e
 
   -- none is free
-  pub new_full : free_from 0 t ≡ Absent → mapped (stepped_by p) (opened_at k (free_from 0 t)) ≡ refused 19
-  new_full e = ap (λ (f : Found). mapped (stepped_by p) (opened_at k f)) e
+  pub new_full : free_from 0 t ≡ None → mapped (stepped_by p) (opened_at k (free_from 0 t)) ≡ refused 19
+  new_full e = ap (λ (f : Option ℕ). mapped (stepped_by p) (opened_at k f)) e
 
   -- slot i is
-  pub new_at : (i : ℕ) → free_from 0 t ≡ At i → mapped (stepped_by p) (opened_at k (free_from 0 t)) ≡ gives (placing i (step (opened k slot_bytes slot_map) p))
-  new_at i e = ap (λ (f : Found). mapped (stepped_by p) (opened_at k f)) e
+  pub new_at : (i : ℕ) → free_from 0 t ≡ Some i → mapped (stepped_by p) (opened_at k (free_from 0 t)) ≡ gives (placing i (step (opened k slot_bytes slot_map) p))
+  new_at i e = ap (λ (f : Option ℕ). mapped (stepped_by p) (opened_at k f)) e
 
 -- A step on slot i once it was opened is the step on an opened assembly.
-pub opened_step : (d m d₁ m₁ : List ℕ) (k : Key) (x : Rec) (i : ℕ) (p : Piece) (r : Landing) (d' m' : List ℕ) → Sized i (length d) (length m)
+pub opened_step : (d m d₁ m₁ : List ℕ) (k : Key) (x : Rec) (i : ℕ) (p : Piece) (r : Result Landing Refusal) (d' m' : List ℕ) → Sized i (length d) (length m)
     → x ≡ record_of (opened k slot_bytes slot_map) → d₁ ≡ with_part slot_bytes i (zeros slot_bytes) d → m₁ ≡ with_part slot_map i (zeros slot_map) m
     → Lands (gives (placing i (step (view x (part_of slot_bytes i d₁) (part_of slot_map i m₁)) p))) d₁ m₁ r d' m'
     → Lands (gives (placing i (step (opened k slot_bytes slot_map) p))) d m r d' m'
@@ -134,7 +135,7 @@ opened_step d m d₁ m₁ k x i p r d' m' at ex ed em y =
     }
 
 -- A step on the slot that the kit reads at i is the step on slot i.
-pub read_step : (t : List Slot) (d m : List ℕ) (i : ℕ) (p : Piece) (r : Landing) (d' m' : List ℕ) → i < length t
+pub read_step : (t : List Slot) (d m : List ℕ) (i : ℕ) (p : Piece) (r : Result Landing Refusal) (d' m' : List ℕ) → i < length t
     → Lands (gives (placing i (step (view (get_or t i past-slot).rec (part_of slot_bytes i d) (part_of slot_map i m)) p))) d m r d' m'
     → Lands (gives (placing i (step (state_at t d m i) p))) d m r d' m'
 read_step t d m i p r d' m' lt x =
@@ -150,24 +151,24 @@ module _ (t : List Slot) (d m : List ℕ) (k : Key) where
   unfolding discard_answer
   discard_eleven e = pick_no _ _ e
 
-  pub discard_found : (f : Found) → table_fits t (length d) (length m) ≡ true → key_from 0 k t ≡ f → here ≡ held_for f
+  pub discard_found : (f : Option ℕ) → table_fits t (length d) (length m) ≡ true → key_from 0 k t ≡ f → here ≡ held_for f
   unfolding discard_answer
   discard_found f u e = pick_yes _ _ u ∙ ap held_for e
 
-  pub discard_refused : (n : ℕ) (r : Discarded) → here ≡ refused n → (r.table ≡ t) × (gone_says r.answer ≡ refused n) → Discards t d m k r d m
+  pub discard_refused : (n : ℕ) (r : Discarded) → here ≡ refused n → (r.table ≡ t) × (says r.answer ≡ refused n) → Discards t d m k r d m
   discard_refused n r a e =
       record {
-        answer = e.1 ∙ sym (ap (mapped (λ i. 0)) a);
+        answer = e.1 ∙ sym (ap (mapped (λ i. tt {0})) a);
         slots_are = e.0 ∙ sym (ap (λ (x : Answer ℕ). slots_without x t) a);
         payloads_are = sym (ap (λ (x : Answer ℕ). part_without slot_bytes x d) a);
         maps_are = sym (ap (λ (x : Answer ℕ). part_without slot_map x m) a);
       }
 
   pub discard_done : (i : ℕ) (u : List Slot) (d' m' : List ℕ) → here ≡ gives i → u ≡ set t i free_slot → d' ≡ with_part slot_bytes i (zeros slot_bytes) d
-      → m' ≡ with_part slot_map i (zeros slot_map) m → Discards t d m k (record { table = u; answer = Done }) d' m'
+      → m' ≡ with_part slot_map i (zeros slot_map) m → Discards t d m k (record { table = u; answer = Ok tt }) d' m'
   discard_done i u d' m' a eu ed em =
       record {
-        answer = sym (ap (mapped (λ i. 0)) a);
+        answer = sym (ap (mapped (λ i. tt {0})) a);
         slots_are = eu ∙ sym (ap (λ (x : Answer ℕ). slots_without x t) a);
         payloads_are = ed ∙ sym (ap (λ (x : Answer ℕ). part_without slot_bytes x d) a);
         maps_are = em ∙ sym (ap (λ (x : Answer ℕ). part_without slot_map x m) a);
@@ -183,15 +184,15 @@ module _ (t : List Slot) (d m : List ℕ) (k : Key) (o : List ℕ) where
   unfolding out_answer
   out_eleven e = pick_no _ _ e
 
-  pub out_absent : table_fits t (length d) (length m) ≡ true → key_from 0 k t ≡ Absent → out ≡ refused 27
+  pub out_absent : table_fits t (length d) (length m) ≡ true → key_from 0 k t ≡ None → out ≡ refused 27
   unfolding out_answer
-  out_absent u e = pick_yes _ _ u ∙ ap (λ (f : Found). and_then (held_for f) (λ i. out_of (state_at t d m i) i (length o))) e
+  out_absent u e = pick_yes _ _ u ∙ ap (λ (f : Option ℕ). and_then (held_for f) (λ i. out_of (state_at t d m i) i (length o))) e
 
-  pub out_at : (i : ℕ) → table_fits t (length d) (length m) ≡ true → key_from 0 k t ≡ At i → out ≡ out_of (state_at t d m i) i (length o)
+  pub out_at : (i : ℕ) → table_fits t (length d) (length m) ≡ true → key_from 0 k t ≡ Some i → out ≡ out_of (state_at t d m i) i (length o)
   unfolding out_answer
-  out_at i u e = pick_yes _ _ u ∙ ap (λ (f : Found). and_then (held_for f) (λ i. out_of (state_at t d m i) i (length o))) e
+  out_at i u e = pick_yes _ _ u ∙ ap (λ (f : Option ℕ). and_then (held_for f) (λ i. out_of (state_at t d m i) i (length o))) e
 
-  pub out_refused : (n : ℕ) (r : TakenOut) → out ≡ refused n → (r.table ≡ t) × (out_says r.answer ≡ refused n) → TakesOut t d m k o r d m o
+  pub out_refused : (n : ℕ) (r : TakenOut) → out ≡ refused n → (r.table ≡ t) × (says r.answer ≡ refused n) → TakesOut t d m k o r d m o
   out_refused n r a e =
       record {
         answer = e.1 ∙ sym (ap (mapped (λ x. length x.datagram)) a);

@@ -1,29 +1,28 @@
 -- What each call does to the assembly of each key: a packet leads its own key's on, and the two calls that empty a slot leave its key none.
+use Rattle.std.specs.Prelude.{Option, None, Some}
 use mathlib.Core.Path.{◌≡◌, refl, sym, ap, ◌∙◌}
 use mathlib.Core.Bool.{Bool, true, false, cond}
 use mathlib.Core.List.{List}
-use mathlib.Core.Option.{Option, none, some}
 use Prim.Native.Nat.{ℕ, ◌<◌}
 use native.Mathlib.Omega.{arith}
 use lib.ListN.{length, set, length-set, length-replicate}
 use lib.Seq.{get_or-set_same}
-use Rattle.pkt.specs.Answers.{Answer, refused, gives, and_then, mapped, fitting}
+use Rattle.pkt.specs.Answers.{Answer, refused, gives, and_then, mapped, fitting, says}
 use Rattle.pkt.specs.Written.{written, zeros}
 use Rattle.pkt.proofs.Choice.{both, pick_yes}
 use Rattle.assembly.specs.declared.Key.{Key}
-use Rattle.assembly.specs.Assembly.{State, Outcome, outcome, opened, step, record_fits, complete, held_bytes}
+use Rattle.assembly.specs.declared.Outcome.{Outcome}
+use Rattle.assembly.specs.Assembly.{State, outcome, opened, step, record_fits, complete, held_bytes}
 use Rattle.assembly.specs.Carried.{same_key}
 use Rattle.assembly.proofs.Steps.{view_of}
 use Rattle.assembly.proofs.Keeping.{Kept, cleared_kept, step_kept}
 use Rattle.table.specs.declared.Slot.{Slot}
-use Rattle.table.specs.declared.Found.{Found}
-use Rattle.table.specs.declared.Found.TheVariants.{At, Absent}
 use Rattle.table.specs.declared.Placed.{Placed}
 use Rattle.table.specs.declared.Discarded.{Discarded}
 use Rattle.table.specs.declared.TakenOut.{TakenOut}
 use Rattle.table.specs.Slots.{slots, slot_bytes, slot_map, with_part, free_slot, slot_of, state_at, slot_fits, key_from, free_from}
-use Rattle.table.specs.Table.{stepped_says, Placing, opened_at, placed_at, stepped_by, table_take, slots_after, payloads_after, maps_after, Tables}
-use Rattle.table.specs.Table.{gone_says, held_for, slots_without, part_without, Discards, out_says, Outing, outing, out_of, out_answer, slot_in, datagram_in, TakesOut}
+use Rattle.table.specs.Table.{Placing, opened_at, placed_at, stepped_by, table_take, slots_after, payloads_after, maps_after, Tables}
+use Rattle.table.specs.Table.{held_for, slots_without, part_without, Discards, Outing, outing, out_of, out_answer, slot_in, datagram_in, TakesOut}
 use Rattle.table.specs.Mixed.{Keyed, keyed_in, assembly_at, assembly_of}
 use Rattle.table.proofs.Places.{place_length}
 use Rattle.table.proofs.Keys.{Has, has_below, key_found, key_absent, Free, free_found, Distinct}
@@ -54,10 +53,10 @@ module _ (t : List Slot) (d m : List ℕ) (h : Sound t d m) (i : ℕ) (k : Key) 
     put_sound = stored_sound t d m i k (slot_of s) s.payload s.map stores
 
     put_assembly : (j : Key) → assembly_of (set t i (slot_of s)) (with_part slot_bytes i s.payload d) (with_part slot_map i s.map m) j
-        ≡ cond (same_key k j) (some s) (assembly_of t d m j)
+        ≡ cond (same_key k j) (Some s) (assembly_of t d m j)
     put_assembly j =
         stored_assembly t d m i k (slot_of s) s.payload s.map stores j
-        ∙ ap (λ (u : State). cond (same_key k j) (some u) (assembly_of t d m j)) (view_of s)
+        ∙ ap (λ (u : State). cond (same_key k j) (Some u) (assembly_of t d m j)) (view_of s)
 
   -- or the slot is emptied
   empties : Stores t d m i k free_slot (zeros slot_bytes) (zeros slot_map)
@@ -78,7 +77,7 @@ module _ (t : List Slot) (d m : List ℕ) (h : Sound t d m) (i : ℕ) (k : Key) 
   emptied_sound = stored_sound t d m i k free_slot (zeros slot_bytes) (zeros slot_map) empties
 
   emptied_assembly : (j : Key) → assembly_of (set t i free_slot) (with_part slot_bytes i (zeros slot_bytes) d) (with_part slot_map i (zeros slot_map) m) j
-      ≡ cond (same_key k j) none (assembly_of t d m j)
+      ≡ cond (same_key k j) None (assembly_of t d m j)
   emptied_assembly j = stored_assembly t d m i k free_slot (zeros slot_bytes) (zeros slot_map) empties j
 
   emptied_free : Free (set t i free_slot) i
@@ -92,8 +91,8 @@ module _ (t : List Slot) (d m : List ℕ) (h : Sound t d m) (i : ℕ) (k : Key) 
 pub data Went (t : List Slot) (d m l : List ℕ) (o : Answer Outcome) (t' : List Slot) (d' m' : List ℕ) : Type 0 where
   kept : (n : ℕ) → keyed_in l ≡ refused n → o ≡ refused n → t' ≡ t → d' ≡ d → m' ≡ m → Went t d m l o t' d' m'
   took : (x : Keyed) (s : State) → keyed_in l ≡ gives x → o ≡ gives (outcome s) → s ≡ step (met_by x.key (assembly_of t d m x.key)) x.piece
-      → Sound t' d' m' → ((j : Key) → assembly_of t' d' m' j ≡ cond (same_key x.key j) (some s) (assembly_of t d m j)) → Went t d m l o t' d' m'
-  turned : (x : Keyed) → keyed_in l ≡ gives x → table_take t d m l ≡ refused 19 → key_from 0 x.key t ≡ Absent → free_from 0 t ≡ Absent
+      → Sound t' d' m' → ((j : Key) → assembly_of t' d' m' j ≡ cond (same_key x.key j) (Some s) (assembly_of t d m j)) → Went t d m l o t' d' m'
+  turned : (x : Keyed) → keyed_in l ≡ gives x → table_take t d m l ≡ refused 19 → key_from 0 x.key t ≡ None → free_from 0 t ≡ None
       → t' ≡ t → d' ≡ d → m' ≡ m → Went t d m l o t' d' m'
 
 module _ (t : List Slot) (d m l : List ℕ) (h : Sound t d m) where
@@ -117,7 +116,7 @@ module _ (t : List Slot) (d m l : List ℕ) (h : Sound t d m) where
           fits = sym (pick_yes _ true a.used) ∙ h.fits i;
         }
 
-    into : (i : ℕ) → key_from 0 x.key t ≡ At i → After (mapped (stepped_by x.piece) (placed_at t d m x.key (At i)))
+    into : (i : ℕ) → key_from 0 x.key t ≡ Some i → After (mapped (stepped_by x.piece) (placed_at t d m x.key (Some i)))
     unfolding Distinct
     into i q =
         let a = key_found x.key t i q in
@@ -131,8 +130,8 @@ module _ (t : List Slot) (d m l : List ℕ) (h : Sound t d m) where
         took x s e refl met (put_sound t d m h i x.key b own alone s good) (put_assembly t d m h i x.key b own alone s good)
 
     -- it has none: a free one is opened
-    opens : key_from 0 x.key t ≡ Absent → (c : Found) → free_from 0 t ≡ c → After (mapped (stepped_by x.piece) (opened_at x.key c))
-    opens n (At i) q =
+    opens : key_from 0 x.key t ≡ None → (c : Option ℕ) → free_from 0 t ≡ c → After (mapped (stepped_by x.piece) (opened_at x.key c))
+    opens n (Some i) q =
         let a = free_found t i q in
         let b : i < slots = omega (arith, a.below, h.size) in
         let s = step (opened x.key slot_bytes slot_map) x.piece in
@@ -143,17 +142,17 @@ module _ (t : List Slot) (d m l : List ℕ) (h : Sound t d m) where
         let met : s ≡ step (met_by x.key (assembly_of t d m x.key)) x.piece =
         ap (λ (o : Option State). step (met_by x.key o) x.piece) (sym (assembly_none t d m x.key (key_absent 0 x.key t n))) in
         took x s e refl met (put_sound t d m h i x.key b own alone s good) (put_assembly t d m h i x.key b own alone s good)
-    opens n Absent q =
+    opens n None q =
         let given : and_then (keyed_in l) (placed_by t d m) ≡ refused 19 =
         ap (λ (a : Answer Keyed). and_then a (placed_by t d m)) e
-        ∙ ap (λ (f : Found). mapped (stepped_by x.piece) (placed_at t d m x.key f)) n
-        ∙ ap (λ (f : Found). mapped (stepped_by x.piece) (opened_at x.key f)) q in
+        ∙ ap (λ (f : Option ℕ). mapped (stepped_by x.piece) (placed_at t d m x.key f)) n
+        ∙ ap (λ (f : Option ℕ). mapped (stepped_by x.piece) (opened_at x.key f)) q in
         turned x e (answered ∙ given) n q refl refl refl
 
     -- whichever is found
-    placed : (c : Found) → key_from 0 x.key t ≡ c → After (mapped (stepped_by x.piece) (placed_at t d m x.key c))
-    placed (At i) q = into i q
-    placed Absent q = opens q (free_from 0 t) refl
+    placed : (c : Option ℕ) → key_from 0 x.key t ≡ c → After (mapped (stepped_by x.piece) (placed_at t d m x.key c))
+    placed (Some i) q = into i q
+    placed None q = opens q (free_from 0 t) refl
 
   -- whatever the packet carries,
   went_by : (a : Answer Keyed) → keyed_in l ≡ a → After (and_then a (placed_by t d m))
@@ -161,7 +160,7 @@ module _ (t : List Slot) (d m l : List ℕ) (h : Sound t d m) where
   went_by (gives x) e = placed x e (key_from 0 x.key t) refl
 
   -- and so after the call
-  pub went : (r : Placed) (d' m' : List ℕ) → Tables (table_take t d m l) t d m r d' m' → Went t d m l (stepped_says r.answer) r.table d' m'
+  pub went : (r : Placed) (d' m' : List ℕ) → Tables (table_take t d m l) t d m r d' m' → Went t d m l (says r.answer) r.table d' m'
   went r d' m' c =
       let o = c.answer ∙ ap (λ (y : Answer Placing). mapped (λ z. outcome z.state) y) answered in
       let s = c.slots_are ∙ ap (λ (y : Answer Placing). slots_after y t) answered in
@@ -174,7 +173,7 @@ module _ (t : List Slot) (d m l : List ℕ) (h : Sound t d m) where
 -- a slot with the key k was emptied, or all is as it was
 pub data Left (k : Key) (t : List Slot) (d m : List ℕ) (t' : List Slot) (d' m' : List ℕ) : Bool → Type 0 where
   stayed : t' ≡ t → d' ≡ d → m' ≡ m → Left k t d m t' d' m' false
-  emptied : (i : ℕ) → Free t' i → Sound t' d' m' → ((j : Key) → assembly_of t' d' m' j ≡ cond (same_key k j) none (assembly_of t d m j))
+  emptied : (i : ℕ) → Free t' i → Sound t' d' m' → ((j : Key) → assembly_of t' d' m' j ≡ cond (same_key k j) None (assembly_of t d m j))
       → Left k t d m t' d' m' true
 
 -- an answer that gives something
@@ -187,29 +186,29 @@ abbrev LeftBy : Key → List Slot → List ℕ → List ℕ → Answer ℕ → B
 LeftBy k t d m a b = Left k t d m (slots_without a t) (part_without slot_bytes a d) (part_without slot_map a m) b
 
 -- what discarding and taking out answer, by the assembly of the key; of the latter the datagram
-abbrev pub gone_by : Option State → Answer ℕ
-gone_by (some s) = gives 0
-gone_by none = refused 27
+abbrev pub gone_by : Option State → Answer (Unit {0})
+gone_by (Some s) = gives tt
+gone_by None = refused 27
 
 abbrev pub out_by : ℕ → Option State → Answer (List ℕ)
-out_by room (some s) = cond (complete s) (mapped (λ n. held_bytes s) (fitting (length (held_bytes s)) room)) (refused 27)
-out_by room none = refused 27
+out_by room (Some s) = cond (complete s) (mapped (λ n. held_bytes s) (fitting (length (held_bytes s)) room)) (refused 27)
+out_by room None = refused 27
 
 abbrev pub put_out : Answer (List ℕ) → List ℕ → List ℕ
 put_out (gives b) o = written b o
 put_out (refused n) o = o
 
 pub record Discarding (t : List Slot) (d m : List ℕ) (k : Key) (r : Discarded) (d' m' : List ℕ) : Type 0 where
-  pub answer : gone_says r.answer ≡ gone_by (assembly_of t d m k)
+  pub answer : says r.answer ≡ gone_by (assembly_of t d m k)
   pub left : Left k t d m r.table d' m' (is_given (gone_by (assembly_of t d m k)))
 
 pub record Outgoing (t : List Slot) (d m : List ℕ) (k : Key) (o : List ℕ) (r : TakenOut) (d' m' o' : List ℕ) : Type 0 where
-  pub answer : out_says r.answer ≡ mapped length (out_by (length o) (assembly_of t d m k))
+  pub answer : says r.answer ≡ mapped length (out_by (length o) (assembly_of t d m k))
   pub output_is : o' ≡ put_out (out_by (length o) (assembly_of t d m k)) o
   pub left : Left k t d m r.table d' m' (is_given (out_by (length o) (assembly_of t d m k)))
 
 module _ (t : List Slot) (d m : List ℕ) (k : Key) (h : Sound t d m) where
-  left_at : (i : ℕ) → key_from 0 k t ≡ At i → LeftBy k t d m (gives i) true
+  left_at : (i : ℕ) → key_from 0 k t ≡ Some i → LeftBy k t d m (gives i) true
   unfolding Distinct
   left_at i q =
       let a = key_found k t i q in
@@ -218,13 +217,13 @@ module _ (t : List Slot) (d m : List ℕ) (k : Key) (h : Sound t d m) where
       let alone : (j : ℕ) → Has t j k → j ≡ i = λ j c. h.distinct j i k c a in
       emptied i (emptied_free t d m h i k b own alone) (emptied_sound t d m h i k b own alone) (emptied_assembly t d m h i k b own alone)
 
-  gone_answer : (f : Found) → mapped (λ i. 0) (held_for f) ≡ gone_by (assembly_at t d m f)
-  gone_answer (At i) = refl
-  gone_answer Absent = refl
+  gone_answer : (f : Option ℕ) → mapped (λ i. tt {0}) (held_for f) ≡ gone_by (assembly_at t d m f)
+  gone_answer (Some i) = refl
+  gone_answer None = refl
 
-  gone_left : (f : Found) → key_from 0 k t ≡ f → LeftBy k t d m (held_for f) (is_given (gone_by (assembly_at t d m f)))
-  gone_left (At i) q = left_at i q
-  gone_left Absent q = stayed refl refl refl
+  gone_left : (f : Option ℕ) → key_from 0 k t ≡ f → LeftBy k t d m (held_for f) (is_given (gone_by (assembly_at t d m f)))
+  gone_left (Some i) q = left_at i q
+  gone_left None q = stayed refl refl refl
 
   pub discarding : (r : Discarded) (d' m' : List ℕ) → Discards t d m k r d' m' → Discarding t d m k r d' m'
   discarding r d' m' c =
@@ -233,18 +232,18 @@ module _ (t : List Slot) (d m : List ℕ) (k : Key) (h : Sound t d m) where
       let u = c.payloads_are ∙ ap (λ (a : Answer ℕ). part_without slot_bytes a d) e in
       let v = c.maps_are ∙ ap (λ (a : Answer ℕ). part_without slot_map a m) e in
       record {
-        answer = c.answer ∙ ap (λ (a : Answer ℕ). mapped (λ i. 0) a) e ∙ gone_answer (key_from 0 k t);
+        answer = c.answer ∙ ap (λ (a : Answer ℕ). mapped (λ i. tt {0}) a) e ∙ gone_answer (key_from 0 k t);
         left = rw (s, u, v) (gone_left (key_from 0 k t) refl);
       }
 
   module _ (o : List ℕ) where
     -- the answer of the slot that is found
-    abbrev out_at : Found → Answer Outing
+    abbrev out_at : Option ℕ → Answer Outing
     out_at f = and_then (held_for f) (λ i. out_of (state_at t d m i) i (length o))
 
-    out_datagram : (f : Found) → mapped (λ x. x.datagram) (out_at f) ≡ out_by (length o) (assembly_at t d m f)
-    out_datagram Absent = refl
-    out_datagram (At i) = go (complete (state_at t d m i)) (fitting (length (held_bytes (state_at t d m i))) (length o))
+    out_datagram : (f : Option ℕ) → mapped (λ x. x.datagram) (out_at f) ≡ out_by (length o) (assembly_at t d m f)
+    out_datagram None = refl
+    out_datagram (Some i) = go (complete (state_at t d m i)) (fitting (length (held_bytes (state_at t d m i))) (length o))
       where
         go : (b : Bool) (a : Answer ℕ) → mapped (λ x. x.datagram) (cond b (mapped (λ n. outing (state_at t d m i) i) a) (refused 27))
             ≡ cond b (mapped (λ n. held_bytes (state_at t d m i)) a) (refused 27)
@@ -252,9 +251,9 @@ module _ (t : List Slot) (d m : List ℕ) (k : Key) (h : Sound t d m) where
         go true (refused n) = refl
         go false a = refl
 
-    out_left : (f : Found) → key_from 0 k t ≡ f → LeftBy k t d m (slot_in (out_at f)) (is_given (out_by (length o) (assembly_at t d m f)))
-    out_left Absent q = stayed refl refl refl
-    out_left (At i) q = go (complete (state_at t d m i)) (fitting (length (held_bytes (state_at t d m i))) (length o))
+    out_left : (f : Option ℕ) → key_from 0 k t ≡ f → LeftBy k t d m (slot_in (out_at f)) (is_given (out_by (length o) (assembly_at t d m f)))
+    out_left None q = stayed refl refl refl
+    out_left (Some i) q = go (complete (state_at t d m i)) (fitting (length (held_bytes (state_at t d m i))) (length o))
       where
         go : (b : Bool) (a : Answer ℕ) → LeftBy k t d m (slot_in (cond b (mapped (λ n. outing (state_at t d m i) i) a) (refused 27)))
             (is_given (cond b (mapped (λ n. held_bytes (state_at t d m i)) a) (refused 27)))

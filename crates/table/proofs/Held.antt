@@ -1,8 +1,8 @@
 -- A table in which each key has the assembly that the pieces f k of that key alone lead to.
+use Rattle.std.specs.Prelude.{Option, None, Some}
 use mathlib.Core.Path.{◌≡◌, refl, sym, ap, subst, ◌∙◌}
 use mathlib.Core.Logic.{◌⊎◌, inl, inr}
 use mathlib.Core.Bool.{Bool, true, false, cond}
-use mathlib.Core.Option.{Option, none, some}
 use mathlib.Core.List.Memᴰ
 use mathlib.Core.List.{List, [], ◌∷◌, ◌++◌, Memᴰ}
 use Prim.Native.Nat.{ℕ, ◌*◌}
@@ -34,14 +34,14 @@ more_acceptable C ps p ok a q m = go (Memᴰ.append_cases ps m)
 
 -- the state that it is a step on: that of an assembly, or an opened one
 abbrev pub met_by : Key → Option State → State
-met_by k (some s) = s
-met_by k none = opened k slot_bytes slot_map
+met_by k (Some s) = s
+met_by k None = opened k slot_bytes slot_map
 
 -- .. and where they led on to with it
-led_more : (k : Key) (ps : List Piece) (p : Piece) → some (step (met_by k (led_to k ps)) p) ≡ led_to k (ps ++ (p ∷ []))
+led_more : (k : Key) (ps : List Piece) (p : Piece) → Some (step (met_by k (led_to k ps)) p) ≡ led_to k (ps ++ (p ∷ []))
 unfolding run
 led_more k [] p = refl
-led_more k (q ∷ ps) p = ap some (sym (run_more (opened k slot_bytes slot_map) (q ∷ ps) p))
+led_more k (q ∷ ps) p = ap Some (sym (run_more (opened k slot_bytes slot_map) (q ∷ ps) p))
 
 -- ---- one more piece of the key k
 unfoldable pub added : (Key → List Piece) → Key → Piece → Key → List Piece
@@ -69,7 +69,7 @@ held_none d m e q =
 -- the piece p of the key k was taken
 pub held_more : (f : Key → List Piece) (t : List Slot) (d m : List ℕ) → Held f t d m → (k : Key) (p : Piece) → Acceptable slot_bytes p
     → (s : State) → s ≡ step (met_by k (assembly_of t d m k)) p → (t' : List Slot) (d' m' : List ℕ) → Sound t' d' m'
-    → ((j : Key) → assembly_of t' d' m' j ≡ cond (same_key k j) (some s) (assembly_of t d m j)) → Held (added f k p) t' d' m'
+    → ((j : Key) → assembly_of t' d' m' j ≡ cond (same_key k j) (Some s) (assembly_of t d m j)) → Held (added f k p) t' d' m'
 unfolding added
 held_more f t d m h k p ok s met t' d' m' sound after =
     record {
@@ -82,9 +82,9 @@ held_more f t d m h k p ok s met t' d' m' sound after =
     fine j true = more_acceptable slot_bytes (f j) p (h.acceptable j) ok
     fine j false = h.acceptable j
 
-    own : some s ≡ led_to k (f k ++ (p ∷ []))
-    own = ap some (met ∙ ap (λ (o : Option State). step (met_by k o) p) (h.led k)) ∙ led_more k (f k) p
+    own : Some s ≡ led_to k (f k ++ (p ∷ []))
+    own = ap Some (met ∙ ap (λ (o : Option State). step (met_by k o) p) (h.led k)) ∙ led_more k (f k) p
 
-    leads : (j : Key) (b : Bool) → same_key k j ≡ b → cond b (some s) (assembly_of t d m j) ≡ led_to j (cond b (f j ++ (p ∷ [])) (f j))
+    leads : (j : Key) (b : Bool) → same_key k j ≡ b → cond b (Some s) (assembly_of t d m j) ≡ led_to j (cond b (f j ++ (p ∷ [])) (f j))
     leads j true e = own ∙ ap (λ (x : Key). led_to x (f x ++ (p ∷ []))) (same_is k j e)
     leads j false e = h.led j

@@ -1,4 +1,5 @@
 -- The slots that are occupied, by their keys: what looking for a key or for a free slot tells, and when no slot refuses a table.
+use Rattle.std.specs.Prelude.{Option, None, Some, is_some}
 use mathlib.Core.Path.{◌≡◌, refl, sym, ap, ◌∙◌}
 use mathlib.Core.Logic.{◌≢◌}
 use mathlib.Core.Bool.{Bool, true, false, cond, true≢false}
@@ -13,9 +14,7 @@ use Rattle.assembly.specs.declared.Key.{Key}
 use Rattle.assembly.specs.Carried.{same_key}
 use Rattle.assembly.proofs.Carrying.{is_same}
 use Rattle.table.specs.declared.Slot.{Slot}
-use Rattle.table.specs.declared.Found.{Found}
-use Rattle.table.specs.declared.Found.TheVariants.{At, Absent}
-use Rattle.table.specs.Slots.{free_slot, holds_key, key_from, free_from, slot_fits, all_fit, found, key_again, key_twice}
+use Rattle.table.specs.Slots.{free_slot, holds_key, key_from, free_from, slot_fits, all_fit, key_again, key_twice}
 
 -- two keys that are told to be the same are equal
 pub same_is : (a b : Key) → same_key a b ≡ true → a ≡ b
@@ -90,37 +89,37 @@ unfolding holds_key
 of_holds k s u e = simp (u, is_same s.rec.key k e)
 
 -- the slot that is found has the key
-found_has : (n : ℕ) (k : Key) (t : List Slot) (i : ℕ) → key_from n k t ≡ At i → (j : ℕ) × (i ≡ n + j) × Has t j k
+found_has : (n : ℕ) (k : Key) (t : List Slot) (i : ℕ) → key_from n k t ≡ Some i → (j : ℕ) × (i ≡ n + j) × Has t j k
 unfolding key_from
 found_has n k [] i e = let z : ◌≡◌ {A = ℕ} 0 1 = cc in absurd (omega arith)
 found_has n k (s ∷ ss) i e = go (holds_key k s) refl (λ q. found_has (suc n) k ss i q)
   where
-    go : (b : Bool) → holds_key k s ≡ b → (key_from (suc n) k ss ≡ At i → (j : ℕ) × (i ≡ suc n + j) × Has ss j k)
+    go : (b : Bool) → holds_key k s ≡ b → (key_from (suc n) k ss ≡ Some i → (j : ℕ) × (i ≡ suc n + j) × Has ss j k)
         → (j : ℕ) × (i ≡ n + j) × Has (s ∷ ss) j k
     go true h r =
         let p = holds_of k s h in
-        let q : At n ≡ At i = sym (pick_yes _ _ h) ∙ e in
+        let q : Some n ≡ Some i = sym (pick_yes _ _ h) ∙ e in
         let z : n ≡ i = cc in
         (0, omega arith, record { used = p.0; key_is = p.1 })
     go false h r =
         let p = r (sym (pick_no _ _ h) ∙ e) in
         (suc p.0, omega (arith, p.1), rest_has p.2)
 
-pub key_found : (k : Key) (t : List Slot) (i : ℕ) → key_from 0 k t ≡ At i → Has t i k
+pub key_found : (k : Key) (t : List Slot) (i : ℕ) → key_from 0 k t ≡ Some i → Has t i k
 key_found k t i e =
     let p = found_has 0 k t i e in
     let z : p.0 ≡ i = omega (arith, p.1) in
     rw z at p.2
 
 -- where none is found, no slot has the key
-pub key_absent : (n : ℕ) (k : Key) (t : List Slot) → key_from n k t ≡ Absent → (j : ℕ) → Has t j k → ⊥
+pub key_absent : (n : ℕ) (k : Key) (t : List Slot) → key_from n k t ≡ None → (j : ℕ) → Has t j k → ⊥
 unfolding key_from
 key_absent n k [] e j h = both h.used refl
 key_absent n k (s ∷ ss) e j h = go (holds_key k s) refl j h (λ q i. key_absent (suc n) k ss q i)
   where
-    go : (b : Bool) → holds_key k s ≡ b → (i : ℕ) → Has (s ∷ ss) i k → (key_from (suc n) k ss ≡ Absent → (i : ℕ) → Has ss i k → ⊥) → ⊥
+    go : (b : Bool) → holds_key k s ≡ b → (i : ℕ) → Has (s ∷ ss) i k → (key_from (suc n) k ss ≡ None → (i : ℕ) → Has ss i k → ⊥) → ⊥
     go true p i g r =
-        let q : At n ≡ Absent = sym (pick_yes _ _ p) ∙ e in
+        let q : Some n ≡ None = sym (pick_yes _ _ p) ∙ e in
         let z : ◌≡◌ {A = ℕ} 0 1 = cc in
         omega arith
     go false p zero g r = both (of_holds k s g.used g.key_is) p
@@ -134,44 +133,44 @@ pub record Free (t : List Slot) (j : ℕ) : Type 0 where
   pub unused : (get_or t j free_slot).used ≡ false
 
 -- the slot that is found is free
-free_from_lem : (n : ℕ) (t : List Slot) (i : ℕ) → free_from n t ≡ At i → (j : ℕ) × (i ≡ n + j) × Free t j
+free_from_lem : (n : ℕ) (t : List Slot) (i : ℕ) → free_from n t ≡ Some i → (j : ℕ) × (i ≡ n + j) × Free t j
 unfolding free_from
 free_from_lem n [] i e = let z : ◌≡◌ {A = ℕ} 0 1 = cc in absurd (omega arith)
 free_from_lem n (s ∷ ss) i e = go s.used refl (λ q. free_from_lem (suc n) ss i q)
   where
-    go : (b : Bool) → s.used ≡ b → (free_from (suc n) ss ≡ At i → (j : ℕ) × (i ≡ suc n + j) × Free ss j)
+    go : (b : Bool) → s.used ≡ b → (free_from (suc n) ss ≡ Some i → (j : ℕ) × (i ≡ suc n + j) × Free ss j)
         → (j : ℕ) × (i ≡ n + j) × Free (s ∷ ss) j
     go true h r =
         let p = r (sym (pick_yes _ _ h) ∙ e) in
         (suc p.0, omega (arith, p.1), record { below = omega (arith, p.2.below); unused = p.2.unused })
     go false h r =
-        let q : At n ≡ At i = sym (pick_no _ _ h) ∙ e in
+        let q : Some n ≡ Some i = sym (pick_no _ _ h) ∙ e in
         let z : n ≡ i = cc in
         (0, omega arith, record { below = omega arith; unused = h })
 
-pub free_found : (t : List Slot) (i : ℕ) → free_from 0 t ≡ At i → Free t i
+pub free_found : (t : List Slot) (i : ℕ) → free_from 0 t ≡ Some i → Free t i
 free_found t i e =
     let p = free_from_lem 0 t i e in
     let z : p.0 ≡ i = omega (arith, p.1) in
     rw z at p.2
 
 -- where none is found, all are occupied
-pub all_used : (n : ℕ) (t : List Slot) → free_from n t ≡ Absent → (j : ℕ) → j < length t → (get_or t j free_slot).used ≡ true
+pub all_used : (n : ℕ) (t : List Slot) → free_from n t ≡ None → (j : ℕ) → j < length t → (get_or t j free_slot).used ≡ true
 unfolding free_from
 all_used n [] e j h = absurd (omega arith)
 all_used n (s ∷ ss) e j h = go s.used refl j h (λ q i. all_used (suc n) ss q i)
   where
     go : (b : Bool) → s.used ≡ b → (i : ℕ) → i < length (s ∷ ss)
-        → (free_from (suc n) ss ≡ Absent → (i : ℕ) → i < length ss → (get_or ss i free_slot).used ≡ true) → (get_or (s ∷ ss) i free_slot).used ≡ true
+        → (free_from (suc n) ss ≡ None → (i : ℕ) → i < length ss → (get_or ss i free_slot).used ≡ true) → (get_or (s ∷ ss) i free_slot).used ≡ true
     go true p zero g r = p
     go true p (suc i) g r = r (sym (pick_yes _ _ p) ∙ e) i (omega arith)
     go false p i g r =
-        let q : At n ≡ Absent = sym (pick_no _ _ p) ∙ e in
+        let q : Some n ≡ None = sym (pick_no _ _ p) ∙ e in
         let z : ◌≡◌ {A = ℕ} 0 1 = cc in
         absurd (omega arith)
 
 -- .. each by the key that it has
-pub none_free : (t : List Slot) → free_from 0 t ≡ Absent → (j : ℕ) → j < length t → Has t j (get_or t j free_slot).rec.key
+pub none_free : (t : List Slot) → free_from 0 t ≡ None → (j : ℕ) → j < length t → Has t j (get_or t j free_slot).rec.key
 none_free t e j h = record { used = all_used 0 t e j h; key_is = refl }
 
 -- ---- what 11 asks of the slots
@@ -191,10 +190,10 @@ not_again : (s : Slot) (ss : List Slot) → Distinct (s ∷ ss) → key_again s 
 unfolding key_again Distinct
 not_again s ss h = go s.used refl (key_from 0 s.rec.key ss) refl
   where
-    go : (b : Bool) → s.used ≡ b → (a : Found) → key_from 0 s.rec.key ss ≡ a → cond s.used (found (key_from 0 s.rec.key ss)) false ≡ false
+    go : (b : Bool) → s.used ≡ b → (a : Option ℕ) → key_from 0 s.rec.key ss ≡ a → cond s.used (is_some (key_from 0 s.rec.key ss)) false ≡ false
     go false u a e = pick_no _ _ u
-    go true u Absent e = pick_yes _ _ u ∙ ap found e
-    go true u (At i) e =
+    go true u None e = pick_yes _ _ u ∙ ap is_some e
+    go true u (Some i) e =
         let p = key_found s.rec.key ss i e in
         absurd (omega (arith, h 0 (suc i) s.rec.key (record { used = u; key_is = refl }) (rest_has p)))
 
@@ -216,9 +215,9 @@ again_not : (s : Slot) (ss : List Slot) → key_again s ss ≡ false → (j : �
 unfolding key_again
 again_not s ss e j k u q h = go (key_from 0 s.rec.key ss) refl
   where
-    go : (f : Found) → key_from 0 s.rec.key ss ≡ f → ⊥
-    go Absent a = key_absent 0 s.rec.key ss a j (record { used = h.used; key_is = h.key_is ∙ sym q })
-    go (At i) a = both (ap found a) (sym (pick_yes _ _ u) ∙ e)
+    go : (f : Option ℕ) → key_from 0 s.rec.key ss ≡ f → ⊥
+    go None a = key_absent 0 s.rec.key ss a j (record { used = h.used; key_is = h.key_is ∙ sym q })
+    go (Some i) a = both (ap is_some a) (sym (pick_yes _ _ u) ∙ e)
 
 pub once_distinct : (t : List Slot) → key_twice t ≡ false → Distinct t
 unfolding key_twice Distinct

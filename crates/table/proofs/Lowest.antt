@@ -1,4 +1,5 @@
 -- Laws of the table's slots, one slot at a time.
+use Rattle.std.specs.Prelude.{Option, None, Some, is_some}
 use mathlib.Core.Path.{◌≡◌, refl, sym, ap, ◌∙◌}
 use Prim.Native.Nat.{ℕ, zero, suc, ◌+◌, ◌-◌, ◌*◌, ◌<◌, ◌≤◌}
 use native.Mathlib.Nat.{not-suc-le-zero, le_of_suc-le-suc}
@@ -12,14 +13,10 @@ use lib.Dec.{eqb}
 use borrow.Author.Tests.{eqb-true, eq-eqb, ne_eqb, not-true, not-false}
 use Rattle.pkt.proofs.Choice.{and_both, pick_yes, pick_no}
 use Rattle.assembly.specs.declared.Key.{Key}
-use Rattle.assembly.specs.declared.Total.TheVariants.{Known, Unknown}
 use Rattle.assembly.specs.Assembly.{record_fits}
 use Rattle.assembly.specs.Carried.{same_key}
-use Rattle.assembly.specs.View.{total_of}
 use Rattle.table.specs.declared.Slot.{Slot}
-use Rattle.table.specs.declared.Found.{Found}
-use Rattle.table.specs.declared.Found.TheVariants.{At, Absent}
-use Rattle.table.specs.Slots.{slots, slot_bytes, slot_map, no_key, free_slot, holds_key, key_from, free_from, found}
+use Rattle.table.specs.Slots.{slots, slot_bytes, slot_map, no_key, free_slot, holds_key, key_from, free_from}
 use Rattle.table.specs.Slots.{slot_fits, all_fit, key_again, key_twice, table_fits, Sized}
 use Rattle.table.specs.Steps.{Occupied}
 
@@ -27,12 +24,12 @@ use Rattle.table.specs.Steps.{Occupied}
 
 -- A slot that is free and has no key is the free slot.
 pub slot_free : (k : Key) → k ≡ no_key
-    → ◌≡◌ {A = Slot} (record { used = false; rec = record { key = k; total = Unknown; floor = 0; spoilt = false } }) free_slot
-slot_free k e = ap (λ (x : Key). record { used = false; rec = record { key = x; total = Unknown; floor = 0; spoilt = false } }) e
+    → ◌≡◌ {A = Slot} (record { used = false; rec = record { key = k; total = None; floor = 0; spoilt = false } }) free_slot
+slot_free k e = ap (λ (x : Key). record { used = false; rec = record { key = x; total = None; floor = 0; spoilt = false } }) e
 
 -- what reading a slot behind the last one gives
 abbrev pub past : Slot
-past = record { used = false; rec = record { key = no_key; total = Known 0; floor = 0; spoilt = false } }
+past = record { used = false; rec = record { key = no_key; total = None; floor = 0; spoilt = false } }
 
 -- a slot that is there is the same, whatever is told past the end
 pub same_element : (t : List Slot) (i : ℕ) (x y : Slot) → i < length t → get_or t i x ≡ get_or t i y
@@ -55,46 +52,46 @@ unfolding holds_key
 free_holds k s u = ap (λ (x : Bool). x && same_key s.rec.key k) (sym u)
 
 -- An occupied slot fits where its record does.
-pub used_fits : (s : Slot) (b : Bool) → s.used ≡ true → b ≡ record_fits slot_bytes (total_of s.rec.total) s.rec.floor → b ≡ slot_fits s
+pub used_fits : (s : Slot) (b : Bool) → s.used ≡ true → b ≡ record_fits slot_bytes s.rec.total s.rec.floor → b ≡ slot_fits s
 unfolding slot_fits
 used_fits s b u e = e ∙ sym (pick_yes _ true u)
 
 -- A free slot fits.
 pub free_fits : (s : Slot) → s.used ≡ false → true ≡ slot_fits s
 unfolding slot_fits
-free_fits s u = sym (pick_no (record_fits slot_bytes (total_of s.rec.total) s.rec.floor) true u)
+free_fits s u = sym (pick_no (record_fits slot_bytes s.rec.total s.rec.floor) true u)
 
 -- Whether a key is found does not depend on the number that the first slot has.
-found_alike : (k : Key) (i j : ℕ) (t : List Slot) → found (key_from i k t) ≡ found (key_from j k t)
+found_alike : (k : Key) (i j : ℕ) (t : List Slot) → is_some (key_from i k t) ≡ is_some (key_from j k t)
 unfolding key_from
 found_alike k i j [] = refl
 found_alike k i j (s ∷ t) = go (holds_key k s) (key_from (suc i) k t) (key_from (suc j) k t) (found_alike k (suc i) (suc j) t)
   where
-    go : (b : Bool) (x y : Found) → found x ≡ found y → found (cond b (At i) x) ≡ found (cond b (At j) y)
+    go : (b : Bool) (x y : Option ℕ) → is_some x ≡ is_some y → is_some (cond b (Some i) x) ≡ is_some (cond b (Some j) y)
     go true x y e = refl
     go false x y e = e
 
 -- An occupied slot's key is again in the slots t where it is found there, whatever number the first of them has.
-pub used_again : (s : Slot) (i : ℕ) (t : List Slot) (f : Found) (b : Bool) → s.used ≡ true → f ≡ key_from i s.rec.key t → b ≡ found f
+pub used_again : (s : Slot) (i : ℕ) (t : List Slot) (f : Option ℕ) (b : Bool) → s.used ≡ true → f ≡ key_from i s.rec.key t → b ≡ is_some f
     → b ≡ key_again s t
 unfolding key_again
-used_again s i t f b u e q = q ∙ ap found e ∙ found_alike s.rec.key i 0 t ∙ sym (pick_yes _ false u)
+used_again s i t f b u e q = q ∙ ap is_some e ∙ found_alike s.rec.key i 0 t ∙ sym (pick_yes _ false u)
 
 -- A free slot's key is in no slot.
 pub free_again : (s : Slot) (t : List Slot) → s.used ≡ false → false ≡ key_again s t
 unfolding key_again
-free_again s t u = sym (pick_no (found (key_from 0 s.rec.key t)) false u)
+free_again s t u = sym (pick_no (is_some (key_from 0 s.rec.key t)) false u)
 
 -- ---- the slots from slot i on: it decides, or leaves it to those behind it
 
 module _ (t : List Slot) (i : ℕ) (h : i < length t) where
   -- the lowest slot with a key is slot i or is found behind it
-  key_next : (k : Key) → key_from i k (drop i t) ≡ cond (holds_key k (get_or t i past)) (At i) (key_from (i + 1) k (drop (i + 1) t))
+  key_next : (k : Key) → key_from i k (drop i t) ≡ cond (holds_key k (get_or t i past)) (Some i) (key_from (i + 1) k (drop (i + 1) t))
   unfolding key_from
   key_next k = rw add-one (ap (key_from i k) (drop-cons t i past h))
 
   -- .. slot i, if it has the key
-  pub key_here : (k : Key) → holds_key k (get_or t i past) ≡ true → key_from i k (drop i t) ≡ At i
+  pub key_here : (k : Key) → holds_key k (get_or t i past) ≡ true → key_from i k (drop i t) ≡ Some i
   key_here k e = key_next k ∙ pick_yes _ _ e
 
   -- .. behind it, if it does not
@@ -102,12 +99,12 @@ module _ (t : List Slot) (i : ℕ) (h : i < length t) where
   key_on k e = key_next k ∙ pick_no _ _ e
 
   -- the lowest free slot is slot i or is found behind it
-  free_next : free_from i (drop i t) ≡ cond (get_or t i past).used (free_from (i + 1) (drop (i + 1) t)) (At i)
+  free_next : free_from i (drop i t) ≡ cond (get_or t i past).used (free_from (i + 1) (drop (i + 1) t)) (Some i)
   unfolding free_from
   free_next = rw add-one (ap (free_from i) (drop-cons t i past h))
 
   -- .. slot i, if it is free
-  pub free_here : (get_or t i past).used ≡ false → free_from i (drop i t) ≡ At i
+  pub free_here : (get_or t i past).used ≡ false → free_from i (drop i t) ≡ Some i
   free_here e = free_next ∙ pick_no _ _ e
 
   -- .. behind it, if it is occupied
@@ -144,12 +141,12 @@ module _ (t : List Slot) (i : ℕ) (h : i < length t) where
 
 module _ (t : List Slot) (i : ℕ) (h : length t ≤ i) where
   -- no key is found
-  pub key_none : (k : Key) → key_from i k (drop i t) ≡ Absent
+  pub key_none : (k : Key) → key_from i k (drop i t) ≡ None
   unfolding key_from
   key_none k = ap (key_from i k) (drop_of_length-le t h)
 
   -- no free slot is found
-  pub free_none : free_from i (drop i t) ≡ Absent
+  pub free_none : free_from i (drop i t) ≡ None
   unfolding free_from
   free_none = ap (free_from i) (drop_of_length-le t h)
 
@@ -184,14 +181,14 @@ meets_on p i j s t m =
     record { from = omega (arith, m.from); below = omega (arith, m.below); met = ap (λ (n : ℕ). p (get_or (s ∷ t) n free_slot)) z ∙ m.met }
 
 -- A slot that is found by its key has it.
-key_meets : (k : Key) (t : List Slot) (i j : ℕ) → key_from i k t ≡ At j → Meets (holds_key k) i t j
+key_meets : (k : Key) (t : List Slot) (i j : ℕ) → key_from i k t ≡ Some j → Meets (holds_key k) i t j
 unfolding key_from
 key_meets k [] i j e = let z : ◌≡◌ {A = ℕ} 0 1 = cc in absurd (omega arith)
 key_meets k (s ∷ t) i j e = go (holds_key k s) refl (key_meets k t (suc i) j)
   where
-    go : (b : Bool) → holds_key k s ≡ b → (key_from (suc i) k t ≡ At j → Meets (holds_key k) (suc i) t j) → Meets (holds_key k) i (s ∷ t) j
+    go : (b : Bool) → holds_key k s ≡ b → (key_from (suc i) k t ≡ Some j → Meets (holds_key k) (suc i) t j) → Meets (holds_key k) i (s ∷ t) j
     go true h more =
-        let same : ◌≡◌ {A = Found} (At i) (At j) = sym (pick_yes _ _ h) ∙ e in
+        let same : ◌≡◌ {A = Option ℕ} (Some i) (Some j) = sym (pick_yes _ _ h) ∙ e in
         let n : i ≡ j = cc in meets_here (holds_key k) i j s t h n
     go false h more = meets_on (holds_key k) i j s t (more (sym (pick_no _ _ h) ∙ e))
 
@@ -200,22 +197,22 @@ is_free : Slot → Bool
 is_free s = not s.used
 
 -- A slot that is found to be free is.
-free_meets : (t : List Slot) (i j : ℕ) → free_from i t ≡ At j → Meets is_free i t j
+free_meets : (t : List Slot) (i j : ℕ) → free_from i t ≡ Some j → Meets is_free i t j
 unfolding free_from is_free
 free_meets [] i j e = let z : ◌≡◌ {A = ℕ} 0 1 = cc in absurd (omega arith)
 free_meets (s ∷ t) i j e = go s.used refl (free_meets t (suc i) j)
   where
-    go : (b : Bool) → s.used ≡ b → (free_from (suc i) t ≡ At j → Meets is_free (suc i) t j) → Meets is_free i (s ∷ t) j
+    go : (b : Bool) → s.used ≡ b → (free_from (suc i) t ≡ Some j → Meets is_free (suc i) t j) → Meets is_free i (s ∷ t) j
     go true h more = meets_on is_free i j s t (more (sym (pick_yes _ _ h) ∙ e))
     go false h more =
-        let same : ◌≡◌ {A = Found} (At i) (At j) = sym (pick_no _ _ h) ∙ e in
+        let same : ◌≡◌ {A = Option ℕ} (Some i) (Some j) = sym (pick_no _ _ h) ∙ e in
         let n : i ≡ j = cc in meets_here is_free i j s t (ap not h) n
 
 -- .. in the whole table, whose first slot has the number 0
 whole : (p : Slot → Bool) (t : List Slot) (j : ℕ) → Meets p 0 t j → p (get_or t j free_slot) ≡ true
 whole p t j m = let z : j ≡ j - 0 = omega arith in ap (λ (n : ℕ). p (get_or t n free_slot)) z ∙ m.met
 
-module _ (k : Key) (t : List Slot) (i : ℕ) (e : key_from 0 k t ≡ At i) where
+module _ (k : Key) (t : List Slot) (i : ℕ) (e : key_from 0 k t ≡ Some i) where
   -- a slot that is found by its key is in the table
   pub key_below : i < length t
   key_below = omega (arith, (key_meets k t 0 i e).below)
@@ -229,7 +226,7 @@ module _ (k : Key) (t : List Slot) (i : ℕ) (e : key_from 0 k t ≡ At i) where
   unfolding holds_key
   key_used = (and_both _ _ key_held).0
 
-module _ (t : List Slot) (i : ℕ) (e : free_from 0 t ≡ At i) where
+module _ (t : List Slot) (i : ℕ) (e : free_from 0 t ≡ Some i) where
   -- a slot that is found to be free is in the table
   pub free_below : i < length t
   free_below = omega (arith, (free_meets t 0 i e).below)
@@ -294,15 +291,15 @@ fit_at (s ∷ t) (suc i) e = fit_at t i (both_fit (slot_fits s) (all_fit t) e).1
 
 -- An occupied one's record fits.
 record_fits_lem : (t : List Slot) (i : ℕ) → all_fit t ≡ true → (get_or t i free_slot).used ≡ true
-    → record_fits slot_bytes (total_of (get_or t i free_slot).rec.total) (get_or t i free_slot).rec.floor ≡ true
+    → record_fits slot_bytes ((get_or t i free_slot).rec.total) (get_or t i free_slot).rec.floor ≡ true
 unfolding slot_fits
 record_fits_lem t i e u = sym (pick_yes _ true u) ∙ fit_at t i e
 
 -- .. of a usable table
 pub usable_record : (t : List Slot) (i d m : ℕ) → table_fits t d m ≡ true → (get_or t i free_slot).used ≡ true
-    → record_fits slot_bytes (total_of (get_or t i free_slot).rec.total) (get_or t i free_slot).rec.floor ≡ true
+    → record_fits slot_bytes ((get_or t i free_slot).rec.total) (get_or t i free_slot).rec.floor ≡ true
 usable_record t i d m e u = record_fits_lem t i (usable t d m e).fit u
 
 -- A slot of a usable table that is found by its key is held.
-pub key_occupied : (k : Key) (t : List Slot) (d m i : ℕ) → table_fits t d m ≡ true → length t ≡ slots → key_from 0 k t ≡ At i → Occupied t i d m
+pub key_occupied : (k : Key) (t : List Slot) (d m i : ℕ) → table_fits t d m ≡ true → length t ≡ slots → key_from 0 k t ≡ Some i → Occupied t i d m
 key_occupied k t d m i u n e = record { usable = u; sized = usable_sized t d m i u (omega (arith, key_below k t i e)); used = key_used k t i e }

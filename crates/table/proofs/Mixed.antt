@@ -1,21 +1,19 @@
 -- "Pieces of several cars arrive mixed": each key's assembly is the one that its own pieces alone lead to.
+use Rattle.std.specs.Prelude.{None, Some}
 use mathlib.Core.Path.{◌≡◌, refl, sym, ap, ◌∙◌}
-use mathlib.Core.Option.{none, some}
 use mathlib.Core.List.Memᴰ
 use mathlib.Core.List.{List, [], ◌∷◌, ◌++◌, Memᴰ}
 use Prim.Native.Nat.{ℕ, zero, suc, ◌<◌}
 use native.Mathlib.Omega.{arith}
 use lib.ListN.{length, get_or}
-use Rattle.pkt.specs.Answers.{gives}
+use Rattle.pkt.specs.Answers.{gives, says}
 use Rattle.assembly.specs.declared.Key.{Key}
 use Rattle.assembly.specs.Piece.{Piece, Same}
 use Rattle.assembly.specs.Assembly.{State, opened, run}
 use Rattle.assembly.specs.Demand.{AllAcceptable}
 use Rattle.assembly.proofs.Assembles.{assembles}
 use Rattle.table.specs.declared.Slot.{Slot}
-use Rattle.table.specs.declared.Found.TheVariants.{Absent}
 use Rattle.table.specs.Slots.{slot_bytes, slot_map, free_slot, state_at, key_from, free_from}
-use Rattle.table.specs.Table.{stepped_says}
 use Rattle.table.specs.Mixed.{Keyed, keyed_in, pieces_of, AtMostEight, HandedTo, empty, more, led_to, Mixes}
 use Rattle.table.proofs.Few.{all_in}
 use Rattle.table.proofs.Keys.{Has, key_absent, none_free, Distinct}
@@ -37,11 +35,11 @@ fewer ls ms a = record { keys = a.keys; few = a.few; all = λ l x m e. a.all l x
 
 -- a new key, while all slots are occupied
 module _ (ls : List (List ℕ)) (t : List Slot) (d m l : List ℕ) (h : Held (λ k. pieces_of k ls) t d m) (x : Keyed)
-    (few : AtMostEight (ls ++ (l ∷ []))) (e : keyed_in l ≡ gives x) (absent : key_from 0 x.key t ≡ Absent) (full : free_from 0 t ≡ Absent) where
+    (few : AtMostEight (ls ++ (l ∷ []))) (e : keyed_in l ≡ gives x) (absent : key_from 0 x.key t ≡ None) (full : free_from 0 t ≡ None) where
   -- a slot's key has a piece
   some_piece : (i : ℕ) (k : Key) → Has t i k → pieces_of k ls ≡ [] → ⊥
   some_piece i k a n =
-      let q : some (state_at t d m i) ≡ none = sym (assembly_at_lem t d m h.sound.distinct i k a) ∙ h.led k ∙ ap (led_to k) n in
+      let q : Some (state_at t d m i) ≡ None = sym (assembly_at_lem t d m h.sound.distinct i k a) ∙ h.led k ∙ ap (led_to k) n in
       let z : ◌≡◌ {A = ℕ} 0 1 = cc in
       omega arith
 
@@ -78,7 +76,7 @@ held_own ls t d m (more ls₀ t₀ d₀ m₀ l r d' m' a c) few =
     let b = held_own ls₀ t₀ d₀ m₀ a (fewer ls₀ (l ∷ []) few) in
     go b (went t₀ d₀ m₀ l b.sound r d' m' c)
   where
-    go : Held (λ k. pieces_of k ls₀) t₀ d₀ m₀ → Went t₀ d₀ m₀ l (stepped_says r.answer) r.table d' m' → Held (λ k. pieces_of k (ls₀ ++ (l ∷ []))) r.table d' m'
+    go : Held (λ k. pieces_of k ls₀) t₀ d₀ m₀ → Went t₀ d₀ m₀ l (says r.answer) r.table d' m' → Held (λ k. pieces_of k (ls₀ ++ (l ∷ []))) r.table d' m'
     go b (kept n e o s u v) = held_as _ _ r.table d' m' (λ k. pieces_kept k ls₀ l n e) (rw (s, u, v) b)
     go b (took x s e o met sound after) =
         held_as _ _ r.table d' m' (pieces_more ls₀ l x e)
@@ -90,10 +88,10 @@ led_same : (k : Key) (ps qs : List Piece) → AllAcceptable slot_bytes ps → Sa
 led_same k [] [] ok s = refl
 led_same k [] (q ∷ qs) ok s = absurd (Memᴰ.not-nil (s.from q (Memᴰ.head refl)))
 led_same k (p ∷ ps) [] ok s = absurd (Memᴰ.not-nil (s.to p (Memᴰ.head refl)))
-led_same k (p ∷ ps) (q ∷ qs) ok s = ap some ((assembles slot_bytes slot_map k (omega arith)).one_end (p ∷ ps) (q ∷ qs) ok s)
+led_same k (p ∷ ps) (q ∷ qs) ok s = ap Some ((assembles slot_bytes slot_map k (omega arith)).one_end (p ∷ ps) (q ∷ qs) ok s)
 
 -- an assembly that pieces lead to is where they are taken one after the other
-pub led_is : (k : Key) (ps : List Piece) (s : State) → led_to k ps ≡ some s → s ≡ run (opened k slot_bytes slot_map) ps
+pub led_is : (k : Key) (ps : List Piece) (s : State) → led_to k ps ≡ Some s → s ≡ run (opened k slot_bytes slot_map) ps
 led_is k [] s e = let z : ◌≡◌ {A = ℕ} 0 1 = cc in absurd (omega arith)
 led_is k (p ∷ ps) s e = cc
 

@@ -1,29 +1,31 @@
 -- What one call leaves for the next: a table that 11 does not refuse, and for a packet of another key what it would have found before.
+use Rattle.std.specs.Prelude.{Option, None, Some}
 use mathlib.Core.Path.{◌≡◌, refl, sym, ap, ◌∙◌}
 use mathlib.Core.Bool.{Bool, true, false, cond}
 use mathlib.Core.List.{List}
-use mathlib.Core.Option.{Option, none, some}
 use Prim.Native.Nat.{ℕ}
 use native.Mathlib.Omega.{arith}
 use lib.ListN.{length}
-use Rattle.pkt.specs.Answers.{Answer, refused, gives, mapped}
+use Rattle.pkt.specs.Answers.{Answer, refused, gives, mapped, says}
 use Rattle.pkt.proofs.Choice.{both, fails, pick_no}
 use Rattle.assembly.specs.declared.Key.{Key}
-use Rattle.assembly.specs.Assembly.{State, Outcome, outcome, step}
+use Rattle.assembly.specs.declared.Outcome.{Outcome}
+use Rattle.assembly.specs.Assembly.{State, outcome, step}
 use Rattle.assembly.specs.Carried.{same_key}
 use Rattle.table.specs.declared.Slot.{Slot}
 use Rattle.table.specs.declared.Placed.{Placed}
 use Rattle.table.specs.declared.Discarded.{Discarded}
 use Rattle.table.specs.declared.TakenOut.{TakenOut}
 use Rattle.table.specs.Slots.{slot_bytes, slot_map, table_fits}
-use Rattle.table.specs.Table.{stepped_says, Placing, table_take, slots_after, payloads_after, maps_after, Tables, gone_says, slots_without, part_without, Discards, out_says, Outing, slot_in, datagram_in, TakesOut}
+use Rattle.table.specs.Table.{Placing, table_take, slots_after, payloads_after, maps_after, Tables, slots_without, part_without, Discards, Outing, slot_in, datagram_in, TakesOut}
 use Rattle.table.specs.Mixed.{Keyed, keyed_in, assembly_of}
 use Rattle.table.specs.Next.{StaysUsable, Foreign, HasSlot, Alike, DiscardFirst, DiscardLast, OutFirst, OutLast, Commutes}
 use Rattle.table.proofs.Keys.{same_is, Free, all_used}
 use Rattle.table.proofs.Assemblies.{Sound, sound_usable, usable_sound, empty_sound}
 use Rattle.table.proofs.Calling.{table_eleven, discard_eleven, out_eleven}
 use Rattle.table.proofs.Held.{met_by}
-use Rattle.table.proofs.Only.{stepped_once, gone_once, out_once, tables_only}
+use Rattle.pkt.proofs.Only.{says_only}
+use Rattle.table.proofs.Only.{tables_only}
 use Rattle.table.proofs.Effects.{Went, kept, took, turned, went, Left, stayed, emptied, gone_by, out_by, put_out, discarding, outgoing}
 
 -- ---- 11 is not given after a call
@@ -76,14 +78,14 @@ module _ (t : List Slot) (d m : List ℕ) (k : Key) (l : List ℕ) (h : Sound t 
 
   -- a slot is emptied first: e and f are the outcomes of the packet after it and before it
   module _ (t₁ : List Slot) (d₁ m₁ : List ℕ) (i : ℕ) (free : Free t₁ i)
-      (gone : (j : Key) → assembly_of t₁ d₁ m₁ j ≡ cond (same_key k j) none (assembly_of t d m j)) where
+      (gone : (j : Key) → assembly_of t₁ d₁ m₁ j ≡ cond (same_key k j) None (assembly_of t d m j)) where
     -- the packet finds the same assembly of its key
     met_same : (x : Keyed) → keyed_in l ≡ gives x → assembly_of t₁ d₁ m₁ x.key ≡ assembly_of t d m x.key
     met_same x e = gone x.key ∙ pick_no _ _ (k_not x e)
 
     emptied_first : (o o' : Answer Outcome) (t₂ : List Slot) (d₂ m₂ : List ℕ) (u₁ : List Slot) (e₁ n₁ : List ℕ) (u₂ : List Slot) (e₂ n₂ : List ℕ)
         → Went t₁ d₁ m₁ l o t₂ d₂ m₂ → Went t d m l o' u₁ e₁ n₁
-        → ((j : Key) → assembly_of u₂ e₂ n₂ j ≡ cond (same_key k j) none (assembly_of u₁ e₁ n₁ j))
+        → ((j : Key) → assembly_of u₂ e₂ n₂ j ≡ cond (same_key k j) None (assembly_of u₁ e₁ n₁ j))
         → (o ≡ o') × Alike t₂ d₂ m₂ u₂ e₂ n₂
     emptied_first o o' t₂ d₂ m₂ u₁ e₁ n₁ u₂ e₂ n₂ (turned x e q n f s u v) (kept n' e' q' s' u' v') after = absurd (both (all_used 0 t₁ f i free.below) free.unused)
     emptied_first o o' t₂ d₂ m₂ u₁ e₁ n₁ u₂ e₂ n₂ (turned x e q n f s u v) (took y z e' q' met sound to) after = absurd (both (all_used 0 t₁ f i free.below) free.unused)
@@ -94,7 +96,7 @@ module _ (t : List Slot) (d m : List ℕ) (k : Key) (l : List ℕ) (h : Sound t 
         let z : n ≡ n' = cc in (
           q ∙ ap refused z ∙ sym q',
           λ j. (λ i. assembly_of (s i) (u i) (v i) j) ∙ gone j
-              ∙ ap (λ (z : Option State). cond (same_key k j) none z) (sym (λ i. assembly_of (s' i) (u' i) (v' i) j)) ∙ sym (after j),
+              ∙ ap (λ (z : Option State). cond (same_key k j) None z) (sym (λ i. assembly_of (s' i) (u' i) (v' i) j)) ∙ sym (after j),
         )
     emptied_first o o' t₂ d₂ m₂ u₁ e₁ n₁ u₂ e₂ n₂ (kept n e q s u v) (took x y e' q' met sound to) after =
         let z : ◌≡◌ {A = ℕ} 0 1 = cc in absurd (omega arith)
@@ -107,12 +109,12 @@ module _ (t : List Slot) (d m : List ℕ) (k : Key) (l : List ℕ) (h : Sound t 
         ∙ ap (λ (z : Keyed). step (met_by z.key (assembly_of t d m z.key)) z.piece) (sym same) ∙ sym met' in (
           q ∙ ap (λ (z : State). gives (outcome z)) led ∙ sym q',
           λ j. to j
-              ∙ ap (λ (z : State). cond (same_key x.key j) (some z) (assembly_of t₁ d₁ m₁ j)) led
-              ∙ ap (λ (z : Option State). cond (same_key x.key j) (some y') z) (gone j)
-              ∙ two_orders (same_key x.key j) (same_key k j) (some y') none (assembly_of t d m j)
+              ∙ ap (λ (z : State). cond (same_key x.key j) (Some z) (assembly_of t₁ d₁ m₁ j)) led
+              ∙ ap (λ (z : Option State). cond (same_key x.key j) (Some y') z) (gone j)
+              ∙ two_orders (same_key x.key j) (same_key k j) (Some y') None (assembly_of t d m j)
               (λ a b. foreign x e (same_is x.key j a ∙ sym (same_is k j b)))
-              ∙ ap (λ (z : Keyed). cond (same_key k j) none (cond (same_key z.key j) (some y') (assembly_of t d m j))) (sym same)
-              ∙ ap (λ (z : Option State). cond (same_key k j) none z) (sym (to' j))
+              ∙ ap (λ (z : Keyed). cond (same_key k j) None (cond (same_key z.key j) (Some y') (assembly_of t d m j))) (sym same)
+              ∙ ap (λ (z : Option State). cond (same_key k j) None z) (sym (to' j))
               ∙ sym (after j),
         )
 
@@ -128,12 +130,12 @@ module _ (t : List Slot) (d m : List ℕ) (k : Key) (l : List ℕ) (h : Sound t 
   either_order b t₁ d₁ m₁ (emptied i free sound gone) p d₂ m₂ c p' e₁ n₁ c' u₂ e₂ n₂ (emptied i' free' sound' gone') =
       let x =
       emptied_first t₁ d₁ m₁ i free gone _ _ p.table d₂ m₂ p'.table e₁ n₁ u₂ e₂ n₂ (went t₁ d₁ m₁ l sound p d₂ m₂ c) (went t d m l h p' e₁ n₁ c') gone' in
-      (stepped_once p.answer p'.answer _ x.0 refl, x.1)
+      (says_only p.answer p'.answer _ x.0 refl, x.1)
 
 -- ---- a table that 11 refuses is left as it is by every call
 module _ (t : List Slot) (d m : List ℕ) (bad : table_fits t (length d) (length m) ≡ false) where
   taken_eleven : (l : List ℕ) (r : Placed) (d' m' : List ℕ) → Tables (table_take t d m l) t d m r d' m'
-      → (stepped_says r.answer ≡ refused 11) × (r.table ≡ t) × (d' ≡ d) × (m' ≡ m)
+      → (says r.answer ≡ refused 11) × (r.table ≡ t) × (d' ≡ d) × (m' ≡ m)
   taken_eleven l r d' m' c =
       let e = table_eleven t d m l bad in (
         c.answer ∙ ap (λ (a : Answer Placing). mapped (λ x. outcome x.state) a) e,
@@ -143,17 +145,17 @@ module _ (t : List Slot) (d m : List ℕ) (bad : table_fits t (length d) (length
       )
 
   discarded_eleven : (k : Key) (r : Discarded) (d' m' : List ℕ) → Discards t d m k r d' m'
-      → (gone_says r.answer ≡ refused 11) × (r.table ≡ t) × (d' ≡ d) × (m' ≡ m)
+      → (says r.answer ≡ refused 11) × (r.table ≡ t) × (d' ≡ d) × (m' ≡ m)
   discarded_eleven k r d' m' c =
       let e = discard_eleven t d m k bad in (
-        c.answer ∙ ap (λ (a : Answer ℕ). mapped (λ i. 0) a) e,
+        c.answer ∙ ap (λ (a : Answer ℕ). mapped (λ i. tt {0}) a) e,
         c.slots_are ∙ ap (λ (a : Answer ℕ). slots_without a t) e,
         c.payloads_are ∙ ap (λ (a : Answer ℕ). part_without slot_bytes a d) e,
         c.maps_are ∙ ap (λ (a : Answer ℕ). part_without slot_map a m) e,
       )
 
   out_eleven_kept : (k : Key) (o : List ℕ) (r : TakenOut) (d' m' o' : List ℕ) → TakesOut t d m k o r d' m' o'
-      → (out_says r.answer ≡ refused 11) × (r.table ≡ t) × (d' ≡ d) × (m' ≡ m) × (o' ≡ o)
+      → (says r.answer ≡ refused 11) × (r.table ≡ t) × (d' ≡ d) × (m' ≡ m) × (o' ≡ o)
   out_eleven_kept k o r d' m' o' c =
       let e = out_eleven t d m k o bad in (
         c.answer ∙ ap (λ (a : Answer Outing). mapped (λ x. length x.datagram) a) e,
@@ -173,8 +175,8 @@ module _ (t : List Slot) (d m : List ℕ) (k : Key) (l : List ℕ) where
       let (pa, pt, pd, pm) = taken_eleven t d m bad l p d₁ m₁ (rw (gt, gd, gm) at a.takes) in
       let (qa, qt, qd, qm) = taken_eleven t d m bad l p' b.payloads b.maps b.takes in
       let (ha, ht, hd, hm) = discarded_eleven t d m bad k g' d₂ m₂ (rw (qt, qd, qm) at b.discards) in (
-        gone_once g.answer g'.answer _ ga ha,
-        stepped_once p.answer p'.answer _ pa qa,
+        says_only g.answer g'.answer _ ga ha,
+        says_only p.answer p'.answer _ pa qa,
         λ j i. assembly_of ((pt ∙ sym ht) i) ((pd ∙ sym hd) i) ((pm ∙ sym hm) i) j,
       )
 
@@ -186,8 +188,8 @@ module _ (t : List Slot) (d m : List ℕ) (k : Key) (l : List ℕ) where
       let (pa, pt, pd, pm) = taken_eleven t d m bad l p d₁ m₁ (rw (gt, gd, gm) at a.takes) in
       let (qa, qt, qd, qm) = taken_eleven t d m bad l p' b.payloads b.maps b.takes in
       let (ha, ht, hd, hm, ho) = out_eleven_kept t d m bad k o g' d₂ m₂ o₂ (rw (qt, qd, qm) at b.takes_out) in (
-        out_once g.answer g'.answer _ ga ha,
-        stepped_once p.answer p'.answer _ pa qa,
+        says_only g.answer g'.answer _ ga ha,
+        says_only p.answer p'.answer _ pa qa,
         go ∙ sym ho,
         λ j i. assembly_of ((pt ∙ sym ht) i) ((pd ∙ sym hd) i) ((pm ∙ sym hm) i) j,
       )
@@ -203,7 +205,7 @@ module _ (t : List Slot) (d m : List ℕ) (k : Key) (l : List ℕ) where
         let same = foreign_keeps t d m k l h foreign room _ _ _ _ w in
         let left : Left k p'.table b.payloads b.maps g'.table d₂ m₂ _ = rw same at y.left in
         let z = either_order t d m k l h foreign room _ g.table a.payloads a.maps x.left p d₁ m₁ a.takes p' b.payloads b.maps b.takes g'.table d₂ m₂ left in
-        (gone_once g.answer g'.answer _ x.answer (y.answer ∙ ap gone_by same), z.0, z.1)
+        (says_only g.answer g'.answer _ x.answer (y.answer ∙ ap gone_by same), z.0, z.1)
 
     out_usable : (o : List ℕ) (g g' : TakenOut) (p p' : Placed) (d₁ m₁ o₁ d₂ m₂ o₂ : List ℕ) → OutFirst t d m k l o g p d₁ m₁ o₁
         → OutLast t d m k l o g' p' d₂ m₂ o₂
@@ -215,7 +217,7 @@ module _ (t : List Slot) (d m : List ℕ) (k : Key) (l : List ℕ) where
         let same = foreign_keeps t d m k l h foreign room _ _ _ _ w in
         let left : Left k p'.table b.payloads b.maps g'.table d₂ m₂ _ = rw same at y.left in
         let z = either_order t d m k l h foreign room _ g.table a.payloads a.maps x.left p d₁ m₁ a.takes p' b.payloads b.maps b.takes g'.table d₂ m₂ left in (
-          out_once g.answer g'.answer _ x.answer (y.answer ∙ ap (λ (s : Option State). mapped length (out_by (length o) s)) same),
+          says_only g.answer g'.answer _ x.answer (y.answer ∙ ap (λ (s : Option State). mapped length (out_by (length o) s)) same),
           z.0,
           x.output_is ∙ sym (y.output_is ∙ ap (λ (s : Option State). put_out (out_by (length o) s) o) same),
           z.1,

@@ -1,14 +1,16 @@
 -- What the steps of a table's calls lead to.
+use Rattle.std.specs.Prelude.{Option, None, Some, Result, Ok, Err}
 use mathlib.Core.Path.{◌≡◌, refl, sym, ap, subst, ◌∙◌}
 use mathlib.Core.Bool.{Bool, true, false, not, ◌&&◌, cond}
 use mathlib.Core.List.{List, []}
-use mathlib.Core.Option.{Option, none, some}
 use Prim.Native.Nat.{ℕ, ◌+◌, ◌*◌, ◌≤◌, ◌<◌}
 use native.Mathlib.Omega.{arith}
 use lib.ListN.{length, set, take, get_or, length-take}
 use lib.Dec.{ltb}
 use borrow.Author.Tests.{lt-ltb, le-ltb}
-use Rattle.pkt.specs.Answers.{Answer, refused, gives, and_then, mapped, fitting}
+use Rattle.pkt.specs.Answers.{Answer, refused, gives, and_then, mapped, fitting, says}
+use Rattle.pkt.specs.Refusal.{number_of}
+use Rattle.pkt.specs.declared.refusal.Refusal.{Refusal}
 use Rattle.pkt.specs.Written.{written}
 use Rattle.pkt.proofs.Choice.{pick_yes, pick_no}
 use Rattle.pkt.proofs.Deciding.{past}
@@ -17,12 +19,14 @@ use Rattle.assembly.specs.declared.Rec.{Rec}
 use Rattle.assembly.specs.declared.Taken.{Taken}
 use Rattle.assembly.specs.declared.step.Progress.{Progress}
 use Rattle.assembly.specs.declared.step.Progress.TheVariants as progress
-use Rattle.assembly.specs.Answers.{Reply, reply, taken_says, Steps, Standing, standing_of, progress_says}
-use Rattle.assembly.specs.Assembly.{State, Outcome, isWaiting, is_complete, isSpoilt, step, outcome}
+use Rattle.assembly.specs.Answers.{Steps, Standing, standing_of, stands}
+use Rattle.assembly.specs.declared.Outcome.{Outcome}
+use Rattle.assembly.specs.declared.Outcome.TheVariants.{Waiting, Complete, Spoilt}
+use Rattle.assembly.specs.Assembly.{State, step, outcome}
 use Rattle.assembly.specs.Assembly.{total_fits, record_fits, held_to, complete, bytes_below, held_bytes}
 use Rattle.assembly.specs.Calls.{ready, put_answer, Puts, any_progress}
 use Rattle.assembly.specs.Carried.{broken, fit_answer}
-use Rattle.assembly.specs.View.{view, total_of, piece}
+use Rattle.assembly.specs.View.{view, piece}
 use Rattle.assembly.proofs.Steps.{steps_as}
 use Rattle.assembly.proofs.Calls.{put_by}
 use Rattle.table.specs.declared.Slot.{Slot}
@@ -30,38 +34,19 @@ use Rattle.table.specs.declared.Landing.{Landing}
 use Rattle.table.specs.declared.Placed.{Placed}
 use Rattle.table.specs.declared.TakenOut.{TakenOut}
 use Rattle.table.specs.Slots.{slots, slot_bytes, slot_map, part_of, with_part, free_slot, state_at}
-use Rattle.table.specs.Table.{stepped_says, out_says, Placing, placing, slots_after, Tables, Outing, outing, out_of, slots_without, part_without, slot_in, datagram_in}
-use Rattle.table.specs.Steps.{slots_with, Stored, Landed, landed_of, Lands, PutAsks, Occupied, length_in, MovedOut, OutOf}
+use Rattle.table.specs.Table.{Placing, placing, slots_after, Tables, Outing, outing, out_of, slots_without, part_without, slot_in, datagram_in}
+use Rattle.table.specs.Steps.{Stored, landed_of, Lands, PutAsks, Occupied, length_in, MovedOut, OutOf}
 use Rattle.table.proofs.Lowest.{usable_record, same_element}
 use Rattle.table.proofs.Parts.{lent, back, lent_part, back_part, payload_length, map_length, first_of}
 
--- ---- storing what a piece led to
-
--- an answer with a record, and a refusal
-pub kept_stored : (t : List Slot) (i : ℕ) (a : Answer Reply) (r : Placed) (o : Outcome) (x : Rec) → a ≡ gives (reply o x)
-    → r.table ≡ set t i (record { used = true; rec = x }) → stepped_says r.answer ≡ gives o → Stored t i a r
-kept_stored t i a r o x e s q =
-    record {
-      answer = q ∙ ap (λ (b : Answer Reply). mapped (λ y. y.answer) b) (sym e);
-      slots_are = s ∙ ap (λ (b : Answer Reply). slots_with b i t) (sym e);
-    }
-
-pub refused_stored : (t : List Slot) (i : ℕ) (a : Answer Reply) (r : Placed) (n : ℕ) → a ≡ refused n → r.table ≡ t
-    → stepped_says r.answer ≡ refused n → Stored t i a r
-refused_stored t i a r n e s q =
-    record {
-      answer = q ∙ ap (λ (b : Answer Reply). mapped (λ y. y.answer) b) (sym e);
-      slots_are = s ∙ ap (λ (b : Answer Reply). slots_with b i t) (sym e);
-    }
-
 -- ---- a step on a slot
 
-abbrev landed : ℕ → Reply → Landed
-landed i r = record { slot = i; reply = r }
+abbrev landing : ℕ → Taken → Landing
+landing i r = record { slot = i; taken = r }
 
 -- a record that fits makes a slot's state ready
 slot_ready : (r : Rec) (p m : List ℕ) → length p ≡ slot_bytes → length m ≡ slot_map
-    → record_fits slot_bytes (total_of r.total) r.floor ≡ true → ready (view r p m) ≡ true
+    → record_fits slot_bytes r.total r.floor ≡ true → ready (view r p m) ≡ true
 unfolding ready
 slot_ready r p m e f h = simp (e, f, h)
 
@@ -83,53 +68,53 @@ module _ (i : ℕ) (x : Rec) (h : IpRead) (b d m : List ℕ) (asks : PutAsks x i
       put_by _ h b (gives h) (slot_ready x _ _ l k asks.fits)
       (ap (λ (n : ℕ). fit_answer n 10 (length b) h) l ∙ any_number slot_bytes 20 10 (length b) h asks.has_room)
 
-  module _ (a : Taken) (d₁ m₁ : List ℕ) (call : Puts (view x (lent slot_bytes i d) (lent slot_map i m)) h b a d₁ m₁) where
+  module _ (a : Result Taken Refusal) (d₁ m₁ : List ℕ) (call : Puts (view x (lent slot_bytes i d) (lent slot_map i m)) h b a d₁ m₁) where
     -- so the call is a step on the slot's state
-    put_slot : Steps (gives (step (view x (part_of slot_bytes i d) (part_of slot_map i m)) (piece h.off h.mf b)))
+    pub put_slot : Steps (gives (step (view x (part_of slot_bytes i d) (part_of slot_map i m)) (piece h.off h.mf b)))
         (view x (part_of slot_bytes i d) (part_of slot_map i m)) a d₁ m₁
     put_slot =
         steps_as _ _ (sym put_given)
         (subst (λ (p : List ℕ). Puts (view x (part_of slot_bytes i d) p) h b a d₁ m₁) (lent_part slot_map i m)
         (subst (λ (p : List ℕ). Puts (view x p (lent slot_map i m)) h b a d₁ m₁) (lent_part slot_bytes i d) call))
 
-    -- which lands there
+    -- it does not refuse,
+    pub put_taken : (e : Refusal) → a ≡ Err e → ⊥
+    put_taken e q = let w = sym (ap says q) ∙ put_slot.answer in let z : ◌≡◌ {A = ℕ} 0 1 = cc in omega arith
+
+  module _ (a : Taken) (d₁ m₁ : List ℕ) (call : Puts (view x (lent slot_bytes i d) (lent slot_map i m)) h b (Ok a) d₁ m₁) where
+    -- and lands there
     pub put_lands : Lands (gives (placing i (step (view x (part_of slot_bytes i d) (part_of slot_map i m)) (piece h.off h.mf b))))
-        d m (record { slot = i; taken = a }) (back slot_bytes i d d₁) (back slot_map i m m₁)
+        d m (Ok (record { slot = i; taken = a })) (back slot_bytes i d d₁) (back slot_map i m m₁)
     put_lands =
-        let e = put_slot in
+        let e = put_slot (Ok a) d₁ m₁ call in
         record {
-          below = asks.sized.one;
-          answer = ap (λ (y : Answer Reply). mapped (λ r. landed i r) y) e.answer;
+          below = λ y q. let z : ◌≡◌ {A = Landing} (record { slot = i; taken = a }) y = cc in subst (λ (w : Landing). w.slot < slots) z asks.sized.one;
+          answer = ap (λ (y : Answer Taken). mapped (λ r. landing i r) y) e.answer;
           payloads_are = back_part slot_bytes i d d₁ ∙ ap (λ (p : List ℕ). with_part slot_bytes i p d) e.payload_is;
           maps_are = back_part slot_map i m m₁ ∙ ap (λ (p : List ℕ). with_part slot_map i p m) e.map_is;
         }
 
 -- ---- what has landed is stored
 
--- the slots after it
-abbrev slots_by : Answer Landed → List Slot → List Slot
-slots_by (gives x) t = set t x.slot (record { used = true; rec = x.reply.rec })
+abbrev answers_by : Answer Landing → Answer Outcome
+answers_by x = mapped (λ y. y.taken.answer) x
+
+abbrev slots_by : Answer Landing → List Slot → List Slot
+slots_by (gives x) t = set t x.slot (record { used = true; rec = x.taken.rec })
 slots_by (refused n) t = t
 
-pub stored_lands : (a : Answer Placing) (t : List Slot) (d m : List ℕ) (x : Landing) (d' m' : List ℕ) (r : Placed) → Lands a d m x d' m'
-    → Stored t x.slot (taken_says x.taken) r → Tables a t d m r d' m'
-stored_lands a t d m x d' m' r l s =
+-- with the answer and the slots after it
+lands_stored : (a : Answer Placing) (t : List Slot) (d m : List ℕ) (x : Result Landing Refusal) (d' m' : List ℕ) (r : Placed) → Lands a d m x d' m'
+    → says r.answer ≡ answers_by (says x) → r.table ≡ slots_by (says x) t → Tables a t d m r d' m'
+lands_stored a t d m x d' m' r l q s =
     record {
-      answer = s.answer ∙ told (taken_says x.taken) ∙ ap (mapped (λ y. y.reply.answer)) l.answer ∙ outcomes a;
-      slots_are = s.slots_are ∙ there (taken_says x.taken) ∙ ap (λ (y : Answer Landed). slots_by y t) l.answer ∙ all_slots a;
+      answer = q ∙ ap answers_by l.answer ∙ outcomes a;
+      slots_are = s ∙ ap (λ (y : Answer Landing). slots_by y t) l.answer ∙ all_slots a;
       payloads_are = l.payloads_are;
       maps_are = l.maps_are;
     }
   where
-    told : (b : Answer Reply) → mapped (λ y. y.answer) b ≡ mapped (λ y. y.reply.answer) (mapped (λ y. landed x.slot y) b)
-    told (gives y) = refl
-    told (refused n) = refl
-
-    there : (b : Answer Reply) → slots_with b x.slot t ≡ slots_by (mapped (λ y. landed x.slot y) b) t
-    there (gives y) = refl
-    there (refused n) = refl
-
-    outcomes : (b : Answer Placing) → mapped (λ y. y.reply.answer) (mapped landed_of b) ≡ mapped (λ y. outcome y.state) b
+    outcomes : (b : Answer Placing) → answers_by (mapped landed_of b) ≡ mapped (λ y. outcome y.state) b
     outcomes (gives y) = refl
     outcomes (refused n) = refl
 
@@ -137,10 +122,18 @@ stored_lands a t d m x d' m' r l s =
     all_slots (gives y) = refl
     all_slots (refused n) = refl
 
+pub stored_lands : (a : Answer Placing) (t : List Slot) (d m : List ℕ) (x : Landing) (d' m' : List ℕ) (r : Placed) → Lands a d m (Ok x) d' m'
+    → Stored t x r → Tables a t d m r d' m'
+stored_lands a t d m x d' m' r l s = lands_stored a t d m (Ok x) d' m' r l (ap says s.answer) s.slots_are
+
+pub refused_stored : (a : Answer Placing) (t : List Slot) (d m : List ℕ) (e : Refusal) (d' m' : List ℕ) (r : Placed) → Lands a d m (Err e) d' m'
+    → (r.table ≡ t) × (says r.answer ≡ refused (number_of e)) → Tables a t d m r d' m'
+refused_stored a t d m e d' m' r l s = lands_stored a t d m (Err e) d' m' r l s.1 s.0
+
 -- ---- an occupied slot of a usable table
 
 -- an opened record fits
-pub opened_fits : record_fits slot_bytes none 0 ≡ true
+pub opened_fits : record_fits slot_bytes None 0 ≡ true
 unfolding record_fits total_fits
 opened_fits = refl
 
@@ -158,54 +151,59 @@ held_stands t i d m h =
 
 -- ---- the length of a complete datagram
 
--- what an answer of progress says of it
+-- what progress says of it
 abbrev pub length_by : Progress → Answer ℕ
 length_by progress.Waiting = refused 27
 length_by (progress.Complete n) = gives n
 length_by progress.Spoilt = refused 27
-length_by (progress.Refused n) = refused 27
 
 -- whether an outcome is complete
 abbrev is_done : Outcome → Bool
-is_done isWaiting = false
-is_done is_complete = true
-is_done isSpoilt = false
+is_done Waiting = false
+is_done Complete = true
+is_done Spoilt = false
 
 -- .. as a state's is
 complete_done : (s : State) → complete s ≡ is_done (outcome s)
 unfolding complete outcome
 complete_done s = go s.spoilt (held_to s.map s.total)
   where
-    go : (a b : Bool) → (not a && b) ≡ is_done (cond a isSpoilt (cond b is_complete isWaiting))
+    go : (a b : Bool) → (not a && b) ≡ is_done (cond a Spoilt (cond b Complete Waiting))
     go true b = refl
     go false true = refl
     go false false = refl
 
 -- the same by how an assembly stands
-abbrev length_of : Answer Standing → Answer ℕ
-length_of (refused n) = refused 27
-length_of (gives x) = cond (is_done x.answer) (gives x.bytes) (refused 27)
+abbrev length_of : Standing → Answer ℕ
+length_of x = cond (is_done x.answer) (gives x.bytes) (refused 27)
 
 -- the two say the same
-length_by_lem : (p : Progress) (s : State) → progress_says p ≡ gives (standing_of s) → length_by p ≡ length_in s
-length_by_lem p s e = says p ∙ ap length_of e ∙ ap (λ (b : Bool). cond b (gives (length (held_bytes s))) (refused 27)) (sym (complete_done s))
+length_by_lem : (p : Progress) (s : State) → stands p ≡ standing_of s → length_by p ≡ length_in s
+length_by_lem p s e = same p ∙ ap length_of e ∙ ap (λ (b : Bool). cond b (gives (length (held_bytes s))) (refused 27)) (sym (complete_done s))
   where
-    says : (q : Progress) → length_by q ≡ length_of (progress_says q)
-    says progress.Waiting = refl
-    says (progress.Complete n) = refl
-    says progress.Spoilt = refl
-    says (progress.Refused n) = refl
+    same : (q : Progress) → length_by q ≡ length_of (stands q)
+    same progress.Waiting = refl
+    same (progress.Complete n) = refl
+    same progress.Spoilt = refl
 
--- the length by progress p, which is q, of an occupied slot that is read with x past the end
-pub length_told : (t : List Slot) (x : Slot) (i : ℕ) (d m : List ℕ) (p q : Progress) → length t ≡ slots → Occupied t i (length d) (length m)
-    → progress_says p ≡ any_progress (view (get_or t i x).rec (lent slot_bytes i d) (lent slot_map i m)) → p ≡ q
-    → length_by q ≡ length_in (state_at t d m i)
-length_told t x i d m p q l h e g =
-    let z = h.sized in
-    let y : get_or t i x ≡ get_or t i free_slot = same_element t i x free_slot (omega arith) in
-    ap length_by (sym g)
-    ∙ length_by_lem p (state_at t d m i)
-    (e ∙ ap (λ (u : Slot). any_progress (view u.rec (lent slot_bytes i d) (lent slot_map i m))) y ∙ held_stands t i d m h)
+-- of an occupied slot that is read with x past the end
+module _ (t : List Slot) (x : Slot) (i : ℕ) (d m : List ℕ) (l : length t ≡ slots) (h : Occupied t i (length d) (length m)) where
+  abbrev told : Answer Standing
+  told = any_progress (view (get_or t i x).rec (lent slot_bytes i d) (lent slot_map i m))
+
+  -- 11 is not given,
+  read_stands : told ≡ gives (standing_of (state_at t d m i))
+  read_stands =
+      let z = h.sized in
+      let y : get_or t i x ≡ get_or t i free_slot = same_element t i x free_slot (omega arith) in
+      ap (λ (u : Slot). any_progress (view u.rec (lent slot_bytes i d) (lent slot_map i m))) y ∙ held_stands t i d m h
+
+  pub never_eleven : (n : ℕ) → refused n ≡ told → ⊥
+  never_eleven n e = let w = e ∙ read_stands in let z : ◌≡◌ {A = ℕ} 0 1 = cc in omega arith
+
+  -- and progress p, which is q, tells the length
+  pub length_told : (p q : Progress) → gives (stands p) ≡ told → p ≡ q → length_by q ≡ length_in (state_at t d m i)
+  length_told p q e g = let w = e ∙ read_stands in ap length_by (sym g) ∙ length_by_lem p (state_at t d m i) (cc w)
 
 -- a length that is given is that of what is held
 pub length_held : (s : State) (n : ℕ) → gives n ≡ length_in s → n ≡ length (held_bytes s)
@@ -223,8 +221,8 @@ unfolding held_bytes bytes_below
 held_front s = go (complete s) s.total
   where
     below : (o : Option ℕ) → take (length (bytes_below o s.payload)) s.payload ≡ bytes_below o s.payload
-    below none = refl
-    below (some n) = first_of n s.payload
+    below None = refl
+    below (Some n) = first_of n s.payload
 
     go : (b : Bool) (o : Option ℕ)
         → take (length (cond b (bytes_below o s.payload) [])) s.payload ≡ cond b (bytes_below o s.payload) []
@@ -254,7 +252,7 @@ out_fitting s i room n e h = out_by_lem s i room (gives n) e ∙ ap (mapped (λ 
 
 -- what that answer leaves: all as it was, or the slot emptied and the datagram in the output
 pub out_stayed : (t : List Slot) (i n : ℕ) (d m o : List ℕ) (r : TakenOut) → out_of (state_at t d m i) i (length o) ≡ refused n → r.table ≡ t
-    → out_says r.answer ≡ refused n → OutOf t i d m o r d m o
+    → says r.answer ≡ refused n → OutOf t i d m o r d m o
 out_stayed t i n d m o r e s q =
     record {
       answer = q ∙ ap (λ (a : Answer Outing). mapped (λ x. length x.datagram) a) (sym e);

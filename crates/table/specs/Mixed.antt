@@ -1,7 +1,6 @@
 -- Document 02, T-03: "Pieces of several cars arrive mixed." Pieces handed to an empty table, one call after the other.
-use Rattle.std.specs.Prelude.{◌≡◌, ◌↔◌, true, cond, ℕ, ◌*◌, ◌≤◌, length, replicate}
+use Rattle.std.specs.Prelude.{◌≡◌, ◌↔◌, true, cond, ℕ, ◌*◌, ◌≤◌, length, replicate, Option, None, Some}
 use mathlib.Core.List.{List, [], ◌∷◌, ◌++◌, Memᴰ}
-use Rattle.std.proofs.Math.Option.{Option, none, some}
 use Rattle.pkt.specs.Answers.{Answer, refused, gives, and_then, mapped}
 use Rattle.inspect.specs.Header.{read_answer, data_of}
 use Rattle.assembly.specs.declared.Key.{Key}
@@ -9,8 +8,6 @@ use Rattle.assembly.specs.Assembly.{State, opened, run}
 use Rattle.assembly.specs.Piece.{Piece, Contradictory, Same}
 use Rattle.assembly.specs.Carried.{key_of, same_key, fit_answer, piece_of}
 use Rattle.table.specs.declared.Slot.{Slot}
-use Rattle.table.specs.declared.Found.{Found}
-use Rattle.table.specs.declared.Found.TheVariants.{At, Absent}
 use Rattle.table.specs.declared.Placed.{Placed}
 use Rattle.table.specs.Slots.{slots, slot_bytes, slot_map, free_slot, state_at, key_from}
 use Rattle.table.specs.Table.{table_take, Tables}
@@ -48,17 +45,17 @@ pub data HandedTo : List (List ℕ) → List Slot → List ℕ → List ℕ → 
       → Tables (table_take t d m l) t d m r d' m' → HandedTo (ls ++ (l ∷ [])) r.table d' m'
 
 -- the assembly of a key, in whichever slot it is; none where no slot has it
-abbrev pub assembly_at : List Slot → List ℕ → List ℕ → Found → Option State
-assembly_at t d m (At i) = some (state_at t d m i)
-assembly_at t d m Absent = none
+abbrev pub assembly_at : List Slot → List ℕ → List ℕ → Option ℕ → Option State
+assembly_at t d m (Some i) = Some (state_at t d m i)
+assembly_at t d m None = None
 
 abbrev pub assembly_of : List Slot → List ℕ → List ℕ → Key → Option State
 assembly_of t d m k = assembly_at t d m (key_from 0 k t)
 
 -- the assembly that pieces of the key k alone lead to; none where there is no piece
 abbrev pub led_to : Key → List Piece → Option State
-led_to k [] = none
-led_to k (p ∷ ps) = some (run (opened k slot_bytes slot_map) (p ∷ ps))
+led_to k [] = None
+led_to k (p ∷ ps) = Some (run (opened k slot_bytes slot_map) (p ∷ ps))
 
 -- one of the packets ls carries a piece of the key k
 pub record Carried (k : Key) (ls : List (List ℕ)) : Type 0 where
@@ -78,4 +75,4 @@ pub record Mixes : Type 0 where
   -- and "demand 3 then holds for each key": spoilt exactly when two of its pieces contradict each other. (The rest of demand 3 is about pieces
   -- that are built from one payload: demands.specs.Tabled.)
   pub spoilt_when : (ls : List (List ℕ)) (t : List Slot) (d m : List ℕ) → HandedTo ls t d m → AtMostEight ls → (k : Key) (s : State)
-      → assembly_of t d m k ≡ some s → (s.spoilt ≡ true) ↔ Contradictory (pieces_of k ls)
+      → assembly_of t d m k ≡ Some s → (s.spoilt ≡ true) ↔ Contradictory (pieces_of k ls)

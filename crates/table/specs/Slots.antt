@@ -1,13 +1,10 @@
 -- Document 02, T-03: "Keep a table of eight assemblies, each with 8,192 payload bytes and a 128-byte map in lent buffers."
-use Rattle.std.specs.Prelude.{◌≡◌, ℕ, suc, ◌*◌, ◌<◌, Bool, true, false, not, ◌&&◌, cond, List, [], ◌∷◌, ◌++◌, take, drop, get_or, eqb}
+use Rattle.std.specs.Prelude.{◌≡◌, ℕ, suc, ◌*◌, ◌<◌, Bool, true, false, not, ◌&&◌, cond, List, [], ◌∷◌, ◌++◌, take, drop, get_or, eqb, Option, None, Some, is_some}
 use Rattle.assembly.specs.declared.Key.{Key}
-use Rattle.assembly.specs.declared.Total.TheVariants.{Unknown}
 use Rattle.assembly.specs.Assembly.{State, record_fits}
 use Rattle.assembly.specs.Carried.{same_key}
-use Rattle.assembly.specs.View.{view, total_of, record_of}
+use Rattle.assembly.specs.View.{view, record_of}
 use Rattle.table.specs.declared.Slot.{Slot}
-use Rattle.table.specs.declared.Found.{Found}
-use Rattle.table.specs.declared.Found.TheVariants.{At, Absent}
 
 -- "eight", "8,192" and "128"
 abbrev pub slots : ℕ
@@ -31,7 +28,7 @@ abbrev pub no_key : Key
 no_key = record { saddr = 0; daddr = 0; id = 0; protocol = 0 }
 
 abbrev pub free_slot : Slot
-free_slot = record { used = false; rec = record { key = no_key; total = Unknown; floor = 0; spoilt = false } }
+free_slot = record { used = false; rec = record { key = no_key; total = None; floor = 0; spoilt = false } }
 
 -- an occupied slot with the record of a state
 abbrev pub slot_of : State → Slot
@@ -46,29 +43,25 @@ unfoldable pub holds_key : Key → Slot → Bool
 holds_key k s = s.used && same_key s.rec.key k
 
 -- the lowest-numbered slot with the key, and the lowest-numbered free one; the first slot of the list has the number i
-unfoldable pub key_from : ℕ → Key → List Slot → Found
-key_from i k [] = Absent
-key_from i k (s ∷ ss) = cond (holds_key k s) (At i) (key_from (suc i) k ss)
+unfoldable pub key_from : ℕ → Key → List Slot → Option ℕ
+key_from i k [] = None
+key_from i k (s ∷ ss) = cond (holds_key k s) (Some i) (key_from (suc i) k ss)
 
-unfoldable pub free_from : ℕ → List Slot → Found
-free_from i [] = Absent
-free_from i (s ∷ ss) = cond s.used (free_from (suc i) ss) (At i)
+unfoldable pub free_from : ℕ → List Slot → Option ℕ
+free_from i [] = None
+free_from i (s ∷ ss) = cond s.used (free_from (suc i) ss) (Some i)
 
 -- "a total above 8,192, a floor above 8,193", of an occupied slot
 unfoldable pub slot_fits : Slot → Bool
-slot_fits s = cond s.used (record_fits slot_bytes (total_of s.rec.total) s.rec.floor) true
+slot_fits s = cond s.used (record_fits slot_bytes s.rec.total s.rec.floor) true
 
 unfoldable pub all_fit : List Slot → Bool
 all_fit [] = true
 all_fit (s ∷ ss) = cond (slot_fits s) (all_fit ss) false
 
 -- whether a slot that is occupied has a key that one of the slots ss has, too
-abbrev pub found : Found → Bool
-found (At i) = true
-found Absent = false
-
 unfoldable pub key_again : Slot → List Slot → Bool
-key_again s ss = cond s.used (found (key_from 0 s.rec.key ss)) false
+key_again s ss = cond s.used (is_some (key_from 0 s.rec.key ss)) false
 
 -- "one key in two occupied slots"
 unfoldable pub key_twice : List Slot → Bool

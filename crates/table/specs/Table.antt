@@ -1,41 +1,19 @@
 -- What each call of a table answers, and every slot and every lent byte after it.
-use Rattle.std.specs.Prelude.{ℕ, cond, ◌≡◌, List, length, set}
-use Rattle.pkt.specs.Answers.{Answer, refused, gives, and_then, mapped, fitting}
+use Rattle.std.specs.Prelude.{ℕ, cond, ◌≡◌, List, length, set, Option, None, Some}
+use Rattle.pkt.specs.Answers.{Answer, refused, gives, and_then, mapped, fitting, says}
 use Rattle.pkt.specs.Written.{written, zeros}
 use Rattle.inspect.specs.Header.{read_answer, data_of}
 use Rattle.inspect.specs.declared.header.IpRead.{IpRead}
 use Rattle.assembly.specs.declared.Key.{Key}
-use Rattle.assembly.specs.Assembly.{State, Outcome, isWaiting, is_complete, isSpoilt, opened, step, outcome, complete, held_bytes}
+use Rattle.assembly.specs.Assembly.{State, opened, step, outcome, complete, held_bytes}
 use Rattle.assembly.specs.Piece.{Piece}
 use Rattle.assembly.specs.Carried.{key_of, fit_answer}
 use Rattle.assembly.specs.View.{piece}
 use Rattle.table.specs.declared.Slot.{Slot}
-use Rattle.table.specs.declared.Found.{Found}
-use Rattle.table.specs.declared.Found.TheVariants.{At, Absent}
-use Rattle.table.specs.declared.Stepped.{Stepped}
-use Rattle.table.specs.declared.Stepped.TheVariants as stepped
 use Rattle.table.specs.declared.Placed.{Placed}
-use Rattle.table.specs.declared.Gone.{Gone}
-use Rattle.table.specs.declared.Gone.TheVariants as gone
 use Rattle.table.specs.declared.Discarded.{Discarded}
-use Rattle.table.specs.declared.Out.{Out}
-use Rattle.table.specs.declared.Out.TheVariants as out
 use Rattle.table.specs.declared.TakenOut.{TakenOut}
 use Rattle.table.specs.Slots.{slot_bytes, slot_map, with_part, free_slot, slot_of, state_at, key_from, free_from, table_fits}
-
-abbrev pub stepped_says : Stepped → Answer Outcome
-stepped_says stepped.Waiting = gives isWaiting
-stepped_says stepped.Complete = gives is_complete
-stepped_says stepped.Spoilt = gives isSpoilt
-stepped_says (stepped.Refused n) = refused n
-
-abbrev pub gone_says : Gone → Answer ℕ
-gone_says gone.Done = gives 0
-gone_says (gone.Refused n) = refused n
-
-abbrev pub out_says : Out → Answer ℕ
-out_says (out.Datagram n) = gives n
-out_says (out.Refused n) = refused n
 
 -- ---- taking a piece
 
@@ -48,14 +26,14 @@ abbrev pub placing : ℕ → State → Placing
 placing i s = record { slot = i; state = s }
 
 -- "or else opens the lowest-numbered free one, zeroed": 19 "exactly if the key is absent and all eight slots are occupied"
-abbrev pub opened_at : Key → Found → Answer Placing
-opened_at k (At i) = gives (placing i (opened k slot_bytes slot_map))
-opened_at k Absent = refused 19
+abbrev pub opened_at : Key → Option ℕ → Answer Placing
+opened_at k (Some i) = gives (placing i (opened k slot_bytes slot_map))
+opened_at k None = refused 19
 
 -- "A piece goes to the lowest-numbered slot with its key, or else opens the lowest-numbered free one"
-abbrev pub placed_at : List Slot → List ℕ → List ℕ → Key → Found → Answer Placing
-placed_at t d m k (At i) = gives (placing i (state_at t d m i))
-placed_at t d m k Absent = opened_at k (free_from 0 t)
+abbrev pub placed_at : List Slot → List ℕ → List ℕ → Key → Option ℕ → Answer Placing
+placed_at t d m k (Some i) = gives (placing i (state_at t d m i))
+placed_at t d m k None = opened_at k (free_from 0 t)
 
 abbrev pub place_for : List Slot → List ℕ → List ℕ → Key → Answer Placing
 place_for t d m k = placed_at t d m k (key_from 0 k t)
@@ -88,7 +66,7 @@ maps_after (refused n) m = m
 
 -- t, d and m are the slots and the buffers before, d' and m' the buffers after
 pub record Tables (a : Answer Placing) (t : List Slot) (d m : List ℕ) (r : Placed) (d' m' : List ℕ) : Type 0 where
-  pub answer : stepped_says r.answer ≡ mapped (λ x. outcome x.state) a
+  pub answer : says r.answer ≡ mapped (λ x. outcome x.state) a
   pub slots_are : r.table ≡ slots_after a t
   pub payloads_are : d' ≡ payloads_after a d
   pub maps_are : m' ≡ maps_after a m
@@ -96,9 +74,9 @@ pub record Tables (a : Answer Placing) (t : List Slot) (d m : List ℕ) (r : Pla
 -- ---- taking out and discarding
 
 -- 27: "if the key is absent"
-abbrev pub held_for : Found → Answer ℕ
-held_for (At i) = gives i
-held_for Absent = refused 27
+abbrev pub held_for : Option ℕ → Answer ℕ
+held_for (Some i) = gives i
+held_for None = refused 27
 
 -- "for discarding, 11, 27 if the key is absent": the slot
 unfoldable pub discard_answer : List Slot → ℕ → ℕ → Key → Answer ℕ
@@ -114,7 +92,7 @@ part_without n (gives i) l = with_part n i (zeros n) l
 part_without n (refused x) l = l
 
 pub record Discards (t : List Slot) (d m : List ℕ) (k : Key) (r : Discarded) (d' m' : List ℕ) : Type 0 where
-  pub answer : gone_says r.answer ≡ mapped (λ i. 0) (discard_answer t (length d) (length m) k)
+  pub answer : says r.answer ≡ mapped (λ i. tt {0}) (discard_answer t (length d) (length m) k)
   pub slots_are : r.table ≡ slots_without (discard_answer t (length d) (length m) k) t
   pub payloads_are : d' ≡ part_without slot_bytes (discard_answer t (length d) (length m) k) d
   pub maps_are : m' ≡ part_without slot_map (discard_answer t (length d) (length m) k) m
@@ -146,7 +124,7 @@ datagram_in (refused n) o = o
 
 -- o is the output before, o' after
 pub record TakesOut (t : List Slot) (d m : List ℕ) (k : Key) (o : List ℕ) (r : TakenOut) (d' m' o' : List ℕ) : Type 0 where
-  pub answer : out_says r.answer ≡ mapped (λ x. length x.datagram) (out_answer t d m k (length o))
+  pub answer : says r.answer ≡ mapped (λ x. length x.datagram) (out_answer t d m k (length o))
   pub slots_are : r.table ≡ slots_without (slot_in (out_answer t d m k (length o))) t
   pub payloads_are : d' ≡ part_without slot_bytes (slot_in (out_answer t d m k (length o))) d
   pub maps_are : m' ≡ part_without slot_map (slot_in (out_answer t d m k (length o))) m

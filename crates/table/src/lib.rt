@@ -2,89 +2,60 @@
 #![tactic(auto)]
 
 ghost use Rattle.std.specs.Prelude.{◌≡◌, true, ◌<◌, ◌≤◌, length, set, drop, replicate};
-ghost use Rattle.pkt.specs.Answers.{refused, gives, mapped};
+ghost use Rattle.pkt.specs.Answers.{refused, gives, mapped, and_then, says};
+ghost use Rattle.pkt.specs.Refusal.{number_of};
 ghost use Rattle.pkt.specs.Written.{zeros};
-ghost use Rattle.assembly.specs.Answers.{taken_says};
 ghost use Rattle.assembly.specs.Assembly.{opened, step};
 ghost use Rattle.assembly.specs.Carried.{key_of};
 ghost use Rattle.assembly.specs.View.{record_of, view, piece};
-ghost use Rattle.table.specs.Slots.{slots, slot_bytes, slot_map, part_of, with_part, state_at, no_key, free_slot, holds_key, key_from, free_from, slot_fits, all_fit, found, key_again, key_twice, table_fits, Sized};
-ghost use Rattle.table.specs.Table.{stepped_says, gone_says, out_says, placing, opened_at, place_for, stepped_by, piece_for, table_take, Tables, Discards, TakesOut};
-ghost use Rattle.table.specs.Steps.{Stored, landing_says, Lands, PutAsks, Fitting, Occupied, length_in, MovedOut, OutOf};
+ghost use Rattle.table.specs.Slots.{slots, slot_bytes, slot_map, part_of, with_part, state_at, no_key, free_slot, holds_key, key_from, free_from, slot_fits, all_fit, key_again, key_twice, table_fits, Sized};
+ghost use Rattle.table.specs.Table.{placing, opened_at, place_for, stepped_by, piece_for, table_take, Tables, Discards, TakesOut};
+ghost use Rattle.table.specs.Steps.{Stored, Lands, landing_of, PutAsks, Fitting, Occupied, length_in, MovedOut, OutOf};
 
-use assembly::{Key, Progress, Rec, Taken, Total, any, carried};
+use assembly::carried::Misfit;
+use assembly::{Key, Outcome, Progress, Rec, Taken, any, carried};
 use inspect::header;
-use inspect::header::{IpRead, Seen};
+use inspect::header::IpRead;
 use pkt::copying::copy;
-use pkt::refusal;
+use pkt::refusal::Refusal;
 
 const SLOT_BYTES: usize = 8192;
 
 const SLOT_MAP: usize = 128;
 
-// An assembly in progress, or none: then the record says nothing.
+// An assembly in progress, or none: then the record says nothing. No Option, since a free slot may hold any bytes, as the tables of the program eightcars do.
 #[derive(Clone, Copy, Drop)]
 pub struct Slot {
     pub used: bool,
     pub rec: Rec,
 }
 
-// The number of a slot.
-#[derive(Clone, Copy, Drop)]
-pub enum Found {
-    At(usize),
-    Absent,
-}
-
-// Where a piece went: a slot, and what the assembly there answered. On a refusal the slot says nothing.
+// Where a piece went: a slot, and what the assembly there answered.
 #[derive(Clone, Copy, Drop)]
 struct Landing {
     slot: usize,
     taken: Taken,
 }
 
-// What taking a piece answers.
-#[derive(Clone, Copy, Drop)]
-pub enum Stepped {
-    Waiting,
-    Complete,
-    Spoilt,
-    Refused(u8),
-}
-
 // The table after a piece, and the answer.
 #[derive(Clone, Copy, Drop)]
 pub struct Placed {
     pub table: [Slot; 8],
-    pub answer: Stepped,
+    pub answer: Result<Outcome, Refusal>,
 }
 
-// The length of a datagram that was taken out, or the number of the refusal.
-#[derive(Clone, Copy, Drop)]
-pub enum Out {
-    Datagram(usize),
-    Refused(u8),
-}
-
-// The table after a datagram was taken out, and the answer.
+// The table after a datagram was taken out, and the answer: its length.
 #[derive(Clone, Copy, Drop)]
 pub struct TakenOut {
     pub table: [Slot; 8],
-    pub answer: Out,
-}
-
-// Whether an assembly was discarded, or the number of the refusal.
-#[derive(Clone, Copy, Drop)]
-pub enum Gone {
-    Done,
-    Refused(u8),
+    pub answer: Result<usize, Refusal>,
 }
 
 // The table after an assembly was discarded, and the answer.
 #[derive(Clone, Copy, Drop)]
 pub struct Discarded {
     pub table: [Slot; 8],
-    pub answer: Gone,
+    pub answer: Result<(), Refusal>,
 }
 
 fn no_key() -> Key
@@ -104,7 +75,7 @@ fn free() -> Slot
     let key = no_key();
     let rec = Rec {
         key,
-        total: Total::Unknown,
+        total: None,
         floor: 0,
         spoilt: false,
     };
@@ -131,33 +102,27 @@ fn holds(s: Slot, key: Key) -> bool
 }
 
 // The lowest slot with the key, from a slot on.
-fn key_from(t: [Slot; 8], from: usize, key: Key) -> Found
+fn key_from(t: [Slot; 8], from: usize, key: Key) -> Option<usize>
     ensures { result ≡ key_from from key (drop from t) }
 {
-    let mut i = from;
-    while i < 8 {
-        let s = t[i];
-        if holds(s, key) {
-            return Found::At(i);
+    for i in from..8 {
+        if holds(t[i], key) {
+            return Some(i);
         }
-        i = i + 1;
     }
-    Found::Absent
+    None
 }
 
 // The lowest free slot.
-fn free_one(t: [Slot; 8]) -> Found
+fn free_one(t: [Slot; 8]) -> Option<usize>
     ensures { result ≡ free_from 0 t }
 {
-    let mut i: usize = 0;
-    while i < 8 {
-        let s = t[i];
+    for (i, s) in t.iter().enumerate() {
         if !s.used {
-            return Found::At(i);
+            return Some(i);
         }
-        i = i + 1;
     }
-    Found::Absent
+    None
 }
 
 fn slot_fits(s: Slot) -> bool
@@ -173,24 +138,12 @@ fn slot_fits(s: Slot) -> bool
 fn all_fit(t: [Slot; 8]) -> bool
     ensures { result ≡ all_fit t }
 {
-    let mut i: usize = 0;
-    while i < 8 {
-        let s = t[i];
+    for s in t {
         if !slot_fits(s) {
             return false;
         }
-        i = i + 1;
     }
     true
-}
-
-fn is_there(f: Found) -> bool
-    ensures { result ≡ found f }
-{
-    match f {
-        Found::At(_) => true,
-        Found::Absent => false,
-    }
 }
 
 // Whether slot s is occupied and a slot from `from` on has its key.
@@ -200,7 +153,7 @@ fn key_again(s: Slot, t: [Slot; 8], from: usize) -> bool
     if s.used {
         let rec = s.rec;
         let key = rec.key;
-        return is_there(key_from(t, from, key));
+        return key_from(t, from, key).is_some();
     }
     false
 }
@@ -209,13 +162,10 @@ fn key_again(s: Slot, t: [Slot; 8], from: usize) -> bool
 fn key_twice(t: [Slot; 8]) -> bool
     ensures { result ≡ key_twice t }
 {
-    let mut i: usize = 0;
-    while i < 8 {
-        let s = t[i];
-        if key_again(s, t, i + 1) {
+    for (i, s) in t.iter().enumerate() {
+        if key_again(*s, t, i + 1) {
             return true;
         }
-        i = i + 1;
     }
     false
 }
@@ -260,42 +210,25 @@ fn update(t: [Slot; 8], i: usize, s: Slot) -> [Slot; 8]
     u
 }
 
-fn refuse(table: [Slot; 8], number: u8) -> Placed
-    ensures { (result.table ≡ table) × (stepped_says result.answer ≡ refused number) }
+fn refuse(table: [Slot; 8], refusal: Refusal) -> Placed
+    ensures { (result.table ≡ table) × (says result.answer ≡ refused (number_of refusal)) }
 {
-    let answer = Stepped::Refused(number);
+    let answer = Err(refusal);
     Placed { table, answer }
 }
 
-// Slot i with this record, and the answer that goes with it.
-fn kept(table: [Slot; 8], i: usize, rec: Rec, answer: Stepped) -> Placed
-    requires { i < 8 }
-    ensures { (result.table ≡ set table i (record { used = true; rec = rec })) × (result.answer ≡ answer) }
-{
-    let slot = Slot { used: true, rec };
-    let table = update(table, i, slot);
-    Placed { table, answer }
-}
-
+// The slot with its new record, and the answer that goes with it.
 fn stored(table: [Slot; 8], landing: Landing) -> Placed
     requires { landing.slot < 8 }
-    ensures { Stored table landing.slot (taken_says landing.taken) result }
+    ensures { Stored table landing result }
 {
     let i = landing.slot;
     let taken = landing.taken;
-    match taken {
-        Taken::Waiting(rec) => kept(table, i, rec, Stepped::Waiting),
-        Taken::Complete(rec) => kept(table, i, rec, Stepped::Complete),
-        Taken::Spoilt(rec) => kept(table, i, rec, Stepped::Spoilt),
-        Taken::Refused(number) => refuse(table, number),
-    }
-}
-
-fn turned_away(number: u8) -> Landing
-    ensures { (result.slot < slots) × (landing_says result ≡ refused number) }
-{
-    let taken = Taken::Refused(number);
-    Landing { slot: 0, taken }
+    let rec = taken.rec;
+    let slot = Slot { used: true, rec };
+    let table = update(table, i, slot);
+    let answer = Ok(taken.answer);
+    Placed { table, answer }
 }
 
 // The step by a piece on slot i, which has this record.
@@ -306,7 +239,7 @@ fn put_at(
     body: &[u8],
     payloads: &mut [u8],
     maps: &mut [u8],
-) -> Landing
+) -> Result<Landing, Refusal>
     requires { PutAsks rec i h (length body.now) (length payloads.old) (length maps.old) }
     ensures { Lands (gives (placing i (step (view rec (part_of slot_bytes i payloads.old) (part_of slot_map i maps.old)) (piece h.off h.mf body.now))))
         payloads.old maps.old result payloads.new maps.new }
@@ -319,8 +252,8 @@ fn put_at(
         body,
         &mut payloads[at..at + SLOT_BYTES],
         &mut maps[map..map + SLOT_MAP],
-    );
-    Landing { slot: i, taken }
+    )?;
+    Ok(Landing { slot: i, taken })
 }
 
 // A piece whose key no slot has: the lowest free slot is opened for it.
@@ -330,14 +263,14 @@ fn put_new(
     body: &[u8],
     payloads: &mut [u8],
     maps: &mut [u8],
-) -> Landing
+) -> Result<Landing, Refusal>
     requires { Fitting table h (length body.now) (length payloads.old) (length maps.old) }
     ensures { Lands (mapped (stepped_by (piece h.off h.mf body.now)) (opened_at (key_of h) (free_from 0 table)))
         payloads.old maps.old result payloads.new maps.new }
 {
     match free_one(table) {
-        Found::Absent => turned_away(refusal::FULL),
-        Found::At(i) => {
+        None => Err(Refusal::Full),
+        Some(i) => {
             let key = carried::key_of(h);
             let rec = open_at(key, i, payloads, maps);
             put_at(i, rec, h, body, payloads, maps)
@@ -346,15 +279,21 @@ fn put_new(
 }
 
 // A piece that fits a slot goes to the lowest slot with its key, or opens one.
-fn place(table: [Slot; 8], h: IpRead, body: &[u8], payloads: &mut [u8], maps: &mut [u8]) -> Landing
+fn place(
+    table: [Slot; 8],
+    h: IpRead,
+    body: &[u8],
+    payloads: &mut [u8],
+    maps: &mut [u8],
+) -> Result<Landing, Refusal>
     requires { Fitting table h (length body.now) (length payloads.old) (length maps.old) }
     ensures { Lands (mapped (stepped_by (piece h.off h.mf body.now)) (place_for table payloads.old maps.old (key_of h)))
         payloads.old maps.old result payloads.new maps.new }
 {
     let key = carried::key_of(h);
     match key_from(table, 0, key) {
-        Found::Absent => put_new(table, h, body, payloads, maps),
-        Found::At(i) => {
+        None => put_new(table, h, body, payloads, maps),
+        Some(i) => {
             let s = table[i];
             let rec = s.rec;
             put_at(i, rec, h, body, payloads, maps)
@@ -368,15 +307,33 @@ fn take_read(
     body: &[u8],
     payloads: &mut [u8],
     maps: &mut [u8],
-) -> Landing
+) -> Result<Landing, Refusal>
     requires { table_fits table (length payloads.old) (length maps.old) ≡ true }
     ensures { Lands (piece_for table payloads.old maps.old h body.now)
         payloads.old maps.old result payloads.new maps.new }
 {
-    match carried::fit(SLOT_BYTES, refusal::TOO_FAR_FOR_SLOT, body.len(), h) {
-        Seen::Refused(number) => turned_away(number),
-        Seen::Packet(p) => place(table, p, body, payloads, maps),
+    match carried::fit(SLOT_BYTES, body.len(), h) {
+        Err(Misfit::NotBlocks) => Err(Refusal::NotBlocks),
+        Err(Misfit::TooFar) => Err(Refusal::TooFarForSlot),
+        Ok(p) => place(table, p, body, payloads, maps),
     }
+}
+
+// Where the piece goes that a packet carries, for a table that is usable.
+fn land(
+    table: [Slot; 8],
+    packet: &[u8],
+    payloads: &mut [u8],
+    maps: &mut [u8],
+) -> Result<Landing, Refusal>
+    requires { table_fits table (length payloads.old) (length maps.old) ≡ true }
+    ensures { Lands (landing_of table payloads.old maps.old packet.now)
+        payloads.old maps.old result payloads.new maps.new }
+{
+    let h = header::read(packet)?;
+    let start = h.start;
+    let end = h.end;
+    take_read(table, h, &packet[start..end], payloads, maps)
 }
 
 // Takes the piece that a packet carries, or refuses it and leaves the table and the buffers as they were. The data is looked at where it lies.
@@ -385,16 +342,11 @@ pub fn take(table: [Slot; 8], packet: &[u8], payloads: &mut [u8], maps: &mut [u8
         table payloads.old maps.old result payloads.new maps.new }
 {
     if !is_usable(table, payloads.len(), maps.len()) {
-        return refuse(table, refusal::BAD_ASSEMBLY);
+        return refuse(table, Refusal::BadAssembly);
     }
-    match header::read(packet) {
-        Seen::Refused(number) => refuse(table, number),
-        Seen::Packet(h) => {
-            let start = h.start;
-            let end = h.end;
-            let landing = take_read(table, h, &packet[start..end], payloads, maps);
-            stored(table, landing)
-        }
+    match land(table, packet, payloads, maps) {
+        Err(refusal) => refuse(table, refusal),
+        Ok(landing) => stored(table, landing),
     }
 }
 
@@ -409,10 +361,10 @@ fn empty_at(table: [Slot; 8], i: usize, payloads: &mut [u8], maps: &mut [u8]) ->
     update(table, i, slot)
 }
 
-fn keep(table: [Slot; 8], number: u8) -> Discarded
-    ensures { (result.table ≡ table) × (gone_says result.answer ≡ refused number) }
+fn keep(table: [Slot; 8], refusal: Refusal) -> Discarded
+    ensures { (result.table ≡ table) × (says result.answer ≡ refused (number_of refusal)) }
 {
-    let answer = Gone::Refused(number);
+    let answer = Err(refusal);
     Discarded { table, answer }
 }
 
@@ -421,43 +373,43 @@ pub fn discard(table: [Slot; 8], key: Key, payloads: &mut [u8], maps: &mut [u8])
     ensures { Discards table payloads.old maps.old key result payloads.new maps.new }
 {
     if !is_usable(table, payloads.len(), maps.len()) {
-        return keep(table, refusal::BAD_ASSEMBLY);
+        return keep(table, Refusal::BadAssembly);
     }
     match key_from(table, 0, key) {
-        Found::Absent => keep(table, refusal::NO_DATAGRAM),
-        Found::At(i) => {
+        None => keep(table, Refusal::NoDatagram),
+        Some(i) => {
             let table = empty_at(table, i, payloads, maps);
-            let answer = Gone::Done;
+            let answer = Ok(());
             Discarded { table, answer }
         }
     }
 }
 
-fn stay(table: [Slot; 8], number: u8) -> TakenOut
-    ensures { (result.table ≡ table) × (out_says result.answer ≡ refused number) }
+fn stay(table: [Slot; 8], refusal: Refusal) -> TakenOut
+    ensures { (result.table ≡ table) × (says result.answer ≡ refused (number_of refusal)) }
 {
-    let answer = Out::Refused(number);
+    let answer = Err(refusal);
     TakenOut { table, answer }
 }
 
 // The length of the complete datagram in slot i, or a refusal's number.
-fn length_at(table: [Slot; 8], i: usize, payloads: &[u8], maps: &[u8]) -> Out
+fn length_at(table: [Slot; 8], i: usize, payloads: &[u8], maps: &[u8]) -> Result<usize, Refusal>
     requires { Occupied table i (length payloads.now) (length maps.now) }
-    ensures { out_says result ≡ length_in (state_at table payloads.now maps.now i) }
+    ensures { says result ≡ length_in (state_at table payloads.now maps.now i) }
 {
     let s = table[i];
     let rec = s.rec;
     let at = SLOT_BYTES * i;
     let map = SLOT_MAP * i;
-    match any::progress(
+    let standing = any::progress(
         rec,
         &payloads[at..at + SLOT_BYTES],
         &maps[map..map + SLOT_MAP],
-    ) {
-        Progress::Complete(n) => Out::Datagram(n),
-        Progress::Waiting => Out::Refused(refusal::NO_DATAGRAM),
-        Progress::Spoilt => Out::Refused(refusal::NO_DATAGRAM),
-        Progress::Refused(_) => Out::Refused(refusal::NO_DATAGRAM),
+    )?;
+    match standing {
+        Progress::Complete(n) => Ok(n),
+        Progress::Waiting => Err(Refusal::NoDatagram),
+        Progress::Spoilt => Err(Refusal::NoDatagram),
     }
 }
 
@@ -476,7 +428,7 @@ fn move_out(
     let at = SLOT_BYTES * i;
     copy(&payloads[at..at + n], out);
     let table = empty_at(table, i, payloads, maps);
-    let answer = Out::Datagram(n);
+    let answer = Ok(n);
     TakenOut { table, answer }
 }
 
@@ -491,11 +443,11 @@ pub fn take_out(
     ensures { TakesOut table payloads.old maps.old key out.old result payloads.new maps.new out.new }
 {
     if !is_usable(table, payloads.len(), maps.len()) {
-        return stay(table, refusal::BAD_ASSEMBLY);
+        return stay(table, Refusal::BadAssembly);
     }
     match key_from(table, 0, key) {
-        Found::Absent => stay(table, refusal::NO_DATAGRAM),
-        Found::At(i) => out_of(table, i, payloads, maps, out),
+        None => stay(table, Refusal::NoDatagram),
+        Some(i) => out_of(table, i, payloads, maps, out),
     }
 }
 
@@ -510,10 +462,10 @@ fn out_of(
     ensures { OutOf table i payloads.old maps.old out.old result payloads.new maps.new out.new }
 {
     match length_at(table, i, payloads, maps) {
-        Out::Refused(number) => stay(table, number),
-        Out::Datagram(n) => {
+        Err(refusal) => stay(table, refusal),
+        Ok(n) => {
             if out.len() < n {
-                return stay(table, refusal::NO_ROOM);
+                return stay(table, Refusal::NoRoom);
             }
             move_out(table, i, n, payloads, maps, out)
         }

@@ -1,4 +1,4 @@
--- All slots fit where those from slot i on do.
+-- All slots fit where those from this one on do.
 use mathlib.Core.Path.{sym, ◌∙◌}
 use Prim.Native.Nat.{◌<◌, ◌≤◌}
 use native.Mathlib.Omega.{arith}
@@ -9,16 +9,16 @@ use Rattle.table.proofs.all_fit.Goals as goal
 pub returns-then-not-slot_fits : goal.returns-then-not-slot_fits
 returns-then-not-slot_fits c =
     let t = c.args.t in
-    let h : c.loop-i.i < length t = omega (arith, c.well_formed.0.1.0.1) in
-    sym (fit_not t c.loop-i.i h (sym c.slot_fits.ensures ∙ c.if-not-slot_fits.true)) ∙ c.loop-i.invariant.1
+    let h : c.loop-s.s-index < length t = omega arith in
+    sym (fit_not t c.loop-s.s-index h (sym c.slot_fits.ensures ∙ c.if-not-slot_fits.true)) ∙ c.loop-s.invariant
 
-pub loop-i-preserved : goal.loop-i-preserved
-loop-i-preserved c =
+pub loop-s-preserved : goal.loop-s-preserved
+loop-s-preserved c =
     let t = c.args.t in
-    let h : c.loop-i.i < length t = omega (arith, c.well_formed.0.1.0.1) in
-    (omega arith, sym (fit_on t c.loop-i.i h (sym c.slot_fits.ensures ∙ c.if-not-slot_fits.false)) ∙ c.loop-i.invariant.1)
+    let h : c.loop-s.s-index < length t = omega arith in
+    sym (fit_on t c.loop-s.s-index h (sym c.slot_fits.ensures ∙ c.if-not-slot_fits.false)) ∙ c.loop-s.invariant
 
 pub returns : goal.returns
 returns c =
-    let h : length c.args.t ≤ c.loop-i.i = omega (arith, c.well_formed.0.1.0.1) in
-    sym (fit_end _ _ h) ∙ c.loop-i.invariant.1
+    let h : length c.args.t ≤ c.loop-s.s-index = omega arith in
+    sym (fit_end _ _ h) ∙ c.loop-s.invariant

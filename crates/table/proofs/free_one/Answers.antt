@@ -10,16 +10,16 @@ use Rattle.table.proofs.free_one.Goals as goal
 pub returns-then-not-s : goal.returns-then-not-s
 returns-then-not-s c =
     let t = c.args.t in
-    let h : c.loop-i.i < length t = omega (arith, c.well_formed.0.1.0.1) in
-    sym (free_here t c.loop-i.i h (not-true _ c.if-not-s.true)) ∙ c.loop-i.invariant.1
+    let h : c.loop-i.i < length t = omega arith in
+    sym (free_here t c.loop-i.i h c.if-not-s.true) ∙ c.loop-i.invariant
 
 pub loop-i-preserved : goal.loop-i-preserved
 loop-i-preserved c =
     let t = c.args.t in
-    let h : c.loop-i.i < length t = omega (arith, c.well_formed.0.1.0.1) in
-    (omega arith, sym (free_on t c.loop-i.i h (not-false _ c.if-not-s.false)) ∙ c.loop-i.invariant.1)
+    let h : c.loop-i.i < length t = omega arith in
+    sym (free_on t c.loop-i.i h c.if-not-s.false) ∙ c.loop-i.invariant
 
 pub returns : goal.returns
 returns c =
-    let h : length c.args.t ≤ c.loop-i.i = omega (arith, c.well_formed.0.1.0.1) in
-    sym (free_none _ _ h) ∙ c.loop-i.invariant.1
+    let h : length c.args.t ≤ c.loop-i.i = omega arith in
+    sym (free_none _ _ h) ∙ c.loop-i.invariant

@@ -9,16 +9,16 @@ use Rattle.table.proofs.key_twice.Goals as goal
 pub returns-then-key_again : goal.returns-then-key_again
 returns-then-key_again c =
     let t = c.args.t in
-    let h : c.loop-i.i < length t = omega (arith, c.well_formed.0.1.0.1) in
-    sym (twice_here t c.loop-i.i h (sym c.key_again.ensures ∙ c.if-key_again.true)) ∙ c.loop-i.invariant.1
+    let h : c.loop-i.i < length t = omega arith in
+    sym (twice_here t c.loop-i.i h (sym c.key_again.ensures ∙ c.if-key_again.true)) ∙ c.loop-i.invariant
 
 pub loop-i-preserved : goal.loop-i-preserved
 loop-i-preserved c =
     let t = c.args.t in
-    let h : c.loop-i.i < length t = omega (arith, c.well_formed.0.1.0.1) in
-    (omega arith, sym (twice_on t c.loop-i.i h (sym c.key_again.ensures ∙ c.if-key_again.false)) ∙ c.loop-i.invariant.1)
+    let h : c.loop-i.i < length t = omega arith in
+    sym (twice_on t c.loop-i.i h (sym c.key_again.ensures ∙ c.if-key_again.false)) ∙ c.loop-i.invariant
 
 pub returns : goal.returns
 returns c =
-    let h : length c.args.t ≤ c.loop-i.i = omega (arith, c.well_formed.0.1.0.1) in
-    sym (twice_end _ _ h) ∙ c.loop-i.invariant.1
+    let h : length c.args.t ≤ c.loop-i.i = omega arith in
+    sym (twice_end _ _ h) ∙ c.loop-i.invariant

@@ -6,7 +6,8 @@ use Rattle.assembly.specs.declared.Key.{Key}
 use Rattle.assembly.specs.declared.Rec.{Rec}
 use Rattle.assembly.specs.Assembly.{opened, record_fits}
 use Rattle.assembly.specs.Carried.{key_of}
-use Rattle.assembly.specs.View.{total_of, record_of, piece}
+use Rattle.assembly.specs.View.{record_of, piece}
+use Rattle.pkt.specs.declared.refusal.Refusal.TheVariants.{Full}
 use Rattle.table.specs.Slots.{slot_bytes, slot_map}
 use Rattle.table.proofs.Calling.{lands_as, refused_lands, new_full, new_at, opened_step}
 use Rattle.table.proofs.Lowest.{free_below, usable_sized}
@@ -16,35 +17,35 @@ use Rattle.table.proofs.put_new.Goals as goal
 pub open_at-rec-requires : goal.open_at-rec-requires
 open_at-rec-requires c =
     let a = c.args in
-    let free = free_below a.table _ (sym c.free_one.ensures ∙ c.in-At.is) in
+    let free = free_below a.table _ (sym c.free_one.ensures ∙ c.in-Some.is) in
     usable_sized a.table _ _ _ c.requires.usable (omega (arith, free, c.well_formed.0.1.0.1))
 
 pub put_at-requires : goal.put_at-requires
 put_at-requires c =
     let a = c.args in
     let opening = c.open_at-rec in
-    let i : ℕ = c.in-At.i in
-    let free = free_below a.table i (sym c.free_one.ensures ∙ c.in-At.is) in
+    let i : ℕ = c.in-Some.i in
+    let free = free_below a.table i (sym c.free_one.ensures ∙ c.in-Some.is) in
     let at = usable_sized a.table (length a.payloads.now) (length a.maps.now) i c.requires.usable (omega (arith, free, c.well_formed.0.1.0.1)) in
     record {
       sized = record { one = at.one; payloads = opening.auto.payloads ∙ at.payloads; maps = opening.auto.maps ∙ at.maps };
-      fits = ap (λ (x : Rec). record_fits slot_bytes (total_of x.total) x.floor) opening.ensures.0 ∙ opened_fits;
+      fits = ap (λ (x : Rec). record_fits slot_bytes x.total x.floor) opening.ensures.0 ∙ opened_fits;
       has_room = c.requires.has_room;
     }
 
-pub returns-in-Absent : goal.returns-in-Absent
-returns-in-Absent c =
+pub returns-in-None : goal.returns-in-None
+returns-in-None c =
     let a = c.args in
-    let full = sym c.free_one.ensures ∙ c.in-Absent.is in
-    lands_as _ _ _ _ _ _ _ (new_full a.table a.payloads.now a.maps.now (key_of a.h) (piece a.h.off a.h.mf a.body.now) full) (refused_lands 19 _ _ _ c.turned_away.ensures)
+    let full = sym c.free_one.ensures ∙ c.in-None.is in
+    lands_as _ _ _ _ _ _ _ (new_full a.table a.payloads.now a.maps.now (key_of a.h) (piece a.h.off a.h.mf a.body.now) full) (refused_lands Full _ _)
 
-pub returns-in-At : goal.returns-in-At
-returns-in-At c =
+pub returns-in-Some : goal.returns-in-Some
+returns-in-Some c =
     let a = c.args in
     let opening = c.open_at-rec in
     let key = c.key_of-key.ensures in
-    let free = sym c.free_one.ensures ∙ c.in-At.is in
-    let i : ℕ = c.in-At.i in
+    let free = sym c.free_one.ensures ∙ c.in-Some.is in
+    let i : ℕ = c.in-Some.i in
     let at = usable_sized a.table (length a.payloads.now) (length a.maps.now) i c.requires.usable (omega (arith, free_below a.table i free, c.well_formed.0.1.0.1)) in
     lands_as _ _ _ _ _ _ _
     (new_at a.table a.payloads.now a.maps.now (key_of a.h) (piece a.h.off a.h.mf a.body.now) _ free)
