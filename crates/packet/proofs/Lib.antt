@@ -2,4 +2,3 @@ pub mod Headroom
 pub mod Answers
 pub mod HexDump
 pub mod Example
-pub mod Only

@@ -1,48 +1,13 @@
 -- What the calls on a packet answer, and what they leave in the lent buffers.
-use Rattle.std.specs.Prelude.{ℕ, ◌+◌, ◌-◌, ◌*◌, Bool, cond, ◌&&◌, List, length, ltb}
-use Rattle.pkt.specs.Answers.{Answer, refused, gives, fitting}
+use Rattle.std.specs.Prelude.{ℕ, ◌+◌, ◌-◌, ◌*◌, Bool, cond, ◌&&◌, List, length, ltb, Result}
+use Rattle.pkt.specs.Answers.{Answer, refused, gives, fitting, says}
 use Rattle.pkt.specs.Written.{zeros, Done, Wrote}
 use Rattle.packet.specs.Headroom.{most_end, valid, len_of, packet, part, within, leads, bytes_at, whole_of, placed}
 use Rattle.packet.specs.Dump.{dump_of}
 use Rattle.packet.specs.declared.Packet.{Packet}
 use Rattle.packet.specs.declared.PktSlice.{PktSlice}
-use Rattle.packet.specs.declared.Number.{Number}
-use Rattle.packet.specs.declared.Number.TheVariants as number
-use Rattle.packet.specs.declared.Truth.{Truth}
-use Rattle.packet.specs.declared.Truth.TheVariants as truth
-use Rattle.packet.specs.declared.Part.{Part}
-use Rattle.packet.specs.declared.Part.TheVariants as parts
-use Rattle.packet.specs.declared.Made.{Made}
-use Rattle.packet.specs.declared.Made.TheVariants as made
-use Rattle.packet.specs.declared.Pushed.{Pushed}
-use Rattle.packet.specs.declared.Pushed.TheVariants as pushed
-
--- ---- what each enum says
-
-abbrev pub number_says : Number → Answer ℕ
-number_says (number.Is n) = gives n
-number_says (number.Refused n) = refused n
-
-abbrev pub truth_says : Truth → Answer Bool
-truth_says (truth.Is b) = gives b
-truth_says (truth.Refused n) = refused n
-
-abbrev pub part_says : Part → Answer PktSlice
-part_says (parts.Is s) = gives s
-part_says (parts.Refused n) = refused n
-
-abbrev pub made_says : Made → Answer Packet
-made_says (made.Is p) = gives p
-made_says (made.Refused n) = refused n
-
--- What appending and prepending give: the new record, and the part that was added.
-pub record Grown : Type 0 where
-  pub whole : Packet
-  pub added : PktSlice
-
-abbrev pub pushed_says : Pushed → Answer Grown
-pushed_says (pushed.Is p s) = gives (record { whole = p; added = s })
-pushed_says (pushed.Refused n) = refused n
+use Rattle.packet.specs.declared.Grown.{Grown}
+use Rattle.pkt.specs.declared.refusal.Refusal.{Refusal}
 
 -- ---- what is answered for the record p over a buffer of n bytes
 
@@ -83,29 +48,29 @@ copy_answer ok k room = cond ok (fitting k room) (refused 16)
 -- ---- whole promises
 
 -- a new packet in the buffer b: the headroom's bytes are zero
-abbrev pub MadeNew : ℕ → List ℕ → Made → List ℕ → Type 0
-MadeNew h b r b' = Wrote made_says (new_answer h (length b)) (zeros h) b r b'
+abbrev pub MadeNew : ℕ → List ℕ → Result Packet Refusal → List ℕ → Type 0
+MadeNew h b r b' = Wrote says (new_answer h (length b)) (zeros h) b r b'
 
 -- k bytes appended, which are d
-abbrev pub Appended : Packet → ℕ → List ℕ → List ℕ → Pushed → List ℕ → Type 0
-Appended p k d b r b' = Done pushed_says (push_answer p k (length b)) (placed p.end d b) b r b'
+abbrev pub Appended : Packet → ℕ → List ℕ → List ℕ → Result Grown Refusal → List ℕ → Type 0
+Appended p k d b r b' = Done says (push_answer p k (length b)) (placed p.end d b) b r b'
 
 -- the bytes d prepended from the headroom
-abbrev pub Prepended : Packet → List ℕ → List ℕ → Pushed → List ℕ → Type 0
-Prepended p d b r b' = Done pushed_says (lower_answer p (length d) (length b)) (placed (p.headroom - length d) d b) b r b'
+abbrev pub Prepended : Packet → List ℕ → List ℕ → Result Grown Refusal → List ℕ → Type 0
+Prepended p d b r b' = Done says (lower_answer p (length d) (length b)) (placed (p.headroom - length d) d b) b r b'
 
 -- the k bytes d at the start of the output o, where ok says that they are there to be copied
-abbrev pub CopiedOut : Bool → ℕ → List ℕ → List ℕ → Number → List ℕ → Type 0
-CopiedOut ok k d o r o' = Wrote number_says (copy_answer ok k (length o)) d o r o'
+abbrev pub CopiedOut : Bool → ℕ → List ℕ → List ℕ → Result ℕ Refusal → List ℕ → Type 0
+CopiedOut ok k d o r o' = Wrote says (copy_answer ok k (length o)) d o r o'
 
 -- to_vec: the packet of the buffer b, and never the headroom
-abbrev pub WholeCopied : Packet → List ℕ → List ℕ → Number → List ℕ → Type 0
+abbrev pub WholeCopied : Packet → List ℕ → List ℕ → Result ℕ Refusal → List ℕ → Type 0
 WholeCopied p b o r o' = CopiedOut (valid p (length b)) (len_of p) (bytes_at (whole_of p) b) o r o'
 
 -- to_vec_from: a part of the packet, and "a part not within the packet" is refused
-abbrev pub PartCopied : Packet → PktSlice → List ℕ → List ℕ → Number → List ℕ → Type 0
+abbrev pub PartCopied : Packet → PktSlice → List ℕ → List ℕ → Result ℕ Refusal → List ℕ → Type 0
 PartCopied p s b o r o' = CopiedOut (valid p (length b) && within p s) s.len (bytes_at s b) o r o'
 
 -- hex_dump: the dump of the packet
-abbrev pub Dumped : Packet → List ℕ → List ℕ → Number → List ℕ → Type 0
+abbrev pub Dumped : Packet → List ℕ → List ℕ → Result ℕ Refusal → List ℕ → Type 0
 Dumped p b o r o' = CopiedOut (valid p (length b)) (length (dump_of p b)) (dump_of p b) o r o'

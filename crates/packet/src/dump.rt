@@ -24,12 +24,10 @@ fn put_number(base: usize, k: usize, x: usize, out: &mut [u8])
     requires { (0 < base) × (base ≤ 16) × (k ≤ length out.old) }
     ensures { out.new ≡ written (numeral base k x) out.old }
 {
-    let mut i = k;
     let mut rest = x;
-    while i > 0 {
-        i -= 1;
+    for i in (0..k).rev() {
         out[i] = digit(rest % base);
-        rest = rest / base;
+        rest /= base;
     }
 }
 
@@ -41,7 +39,7 @@ fn digits(x: usize) -> usize
     let mut n = 1;
     let mut rest = x;
     while rest >= 10 {
-        rest = rest / 10;
+        rest /= 10;
         n += 1;
     }
     n
@@ -61,12 +59,9 @@ fn put_hexes(l: &[u8], out: &mut [u8])
     requires { 3 * length l.now ≤ length out.old }
     ensures { out.new ≡ written (hexes l.now) out.old }
 {
-    let n = l.len();
-    let mut i = 0;
-    while i < n {
+    for (i, b) in l.iter().enumerate() {
         let at = 3 * i;
-        put_hex(l[i], &mut out[at..]);
-        i += 1;
+        put_hex(*b, &mut out[at..]);
     }
 }
 
@@ -88,11 +83,8 @@ fn put_chars(l: &[u8], out: &mut [u8])
     requires { length l.now ≤ length out.old }
     ensures { out.new ≡ written (map shown_of l.now) out.old }
 {
-    let n = l.len();
-    let mut i = 0;
-    while i < n {
-        out[i] = shown(l[i]);
-        i += 1;
+    for (i, b) in l.iter().enumerate() {
+        out[i] = shown(*b);
     }
 }
 
@@ -129,19 +121,13 @@ fn put_line(pos: usize, l: &[u8], out: &mut [u8])
     put_right(l, &mut out[55..]);
 }
 
-fn least(a: usize, b: usize) -> usize
-    ensures { result ≡ min a b }
-{
-    if a < b { a } else { b }
-}
-
 // Line i of the bytes l, behind the full lines before it.
 fn put_nth(i: usize, pos: usize, l: &[u8], out: &mut [u8])
     requires { (16 * i < length l.now) × (pos + length l.now ≤ 1048576) × (57 * (i + 1) + min (16 * (i + 1)) (length l.now) ≤ length out.old) }
     ensures { out.new ≡ placed (73 * i) (line (pos + 16 * i) (take 16 (drop (16 * i) l.now))) out.old }
 {
     let from = 16 * i;
-    let to = least(from + 16, l.len());
+    let to = (from + 16).min(l.len());
     let at = 73 * i;
     put_line(pos + from, &l[from..to], &mut out[at..]);
 }
@@ -152,10 +138,8 @@ fn put_lines(pos: usize, l: &[u8], out: &mut [u8])
     ensures { out.new ≡ written (lines ((length l.now + 15) / 16) pos l.now) out.old }
 {
     let count = (l.len() + 15) / 16;
-    let mut i = 0;
-    while i < count {
+    for i in 0..count {
         put_nth(i, pos, l, out);
-        i += 1;
     }
 }
 

@@ -10,14 +10,11 @@ pub(crate) fn fill(dst: &mut [u8], n: usize, v: u8)
     requires { n ≤ length dst.old }
     ensures { dst.new ≡ written (replicate n v) dst.old }
 {
-    let mut i = 0;
-    while i < n {
-        dst[i] = v;
-        i += 1;
-    }
+    dst[..n].fill(v);
 }
 
 // The bytes d from place at on.
+#[tactic(auto, using(crate::proofs::Headroom::placed_lent, pkt::proofs::Written::copy_written))]
 pub(crate) fn place(buf: &mut [u8], at: usize, d: &[u8])
     requires { at + length d.now ≤ length buf.old }
     ensures { buf.new ≡ placed at d.now buf.old }
@@ -26,6 +23,7 @@ pub(crate) fn place(buf: &mut [u8], at: usize, d: &[u8])
 }
 
 // n zero bytes from place at on.
+#[tactic(auto, using(crate::proofs::Headroom::placed_lent))]
 pub(crate) fn place_zeros(buf: &mut [u8], at: usize, n: usize)
     requires { at + n ≤ length buf.old }
     ensures { buf.new ≡ placed at (zeros n) buf.old }

@@ -15,12 +15,12 @@ pub put_line-requires : goal.put_line-requires
 put_line-requires c =
     let a = c.args in
     let i : ℕ = 16 * a.i in
-    let k : ℕ = c.least-to.result - i in
-    let e = c.least-to.ensures in
+    let k : ℕ = c.min-to.result - i in
+    let e = c.min-to.ensures in
     omega (arith, length-take k (drop i a.l.now), length-drop i a.l.now, mid_length (73 * a.i) a.out.now)
 
 pub returns : goal.returns
 returns c =
     let a = c.args in
     placed_lent _ _ _ (73 * a.i) (omega arith) c.put_line.ensures
-    ∙ ap (λ (x : List ℕ). placed (73 * a.i) (line (a.pos + 16 * a.i) x) a.out.now) (clipped (16 * a.i) c.least-to.result a.l.now (omega arith) c.least-to.ensures)
+    ∙ ap (λ (x : List ℕ). placed (73 * a.i) (line (a.pos + 16 * a.i) x) a.out.now) (clipped (16 * a.i) c.min-to.result a.l.now (omega arith) c.min-to.ensures)

@@ -1,21 +1,13 @@
--- After i turns the first i bytes are v and the rest is as it was.
-use mathlib.Core.Path.{ap, ◌∙◌}
-use Prim.Native.Nat.{ℕ}
-use native.Mathlib.Omega.{arith}
-use mathlib.Core.List.{List}
-use lib.ListN.{set, length-set}
-use borrow.Author.Fill.{fill_more}
-use Rattle.packet.proofs.Headroom.{fill_done}
+-- The slice's method fills the first n bytes, and the rest is as it was.
+use Rattle.std.proofs.Common.{◌≡◌, length, take, arith}
+use Rattle.std.proofs.lemmas.List.{length-take-le}
+use lib.ListN.{length-replicate}
+use Rattle.pkt.specs.Written.{written}
 use Rattle.packet.proofs.put.fill.Goals as goal
 
-pub loop-i-preserved : goal.loop-i-preserved
-loop-i-preserved c =
-    let l = c.loop-i in
-    let a = c.args in (
-      omega arith,
-      simp length-set l.invariant.1,
-      ap (λ (d : List ℕ). set d l.i a.v) l.invariant.2 ∙ fill_more l.i a.v a.dst.now (omega arith),
-    )
-
 pub returns : goal.returns
-returns c = c.loop-i.invariant.2 ∙ fill_done c.loop-i.i c.args.n _ _ (omega arith)
+unfolding written
+returns c =
+    let a = c.args in
+    let n : length (take a.n a.dst.now) ≡ a.n = length-take-le a.n a.dst.now (omega arith) in
+    simp (c.fill.ensures.after (λ y e. e), n, length-replicate)

@@ -1,9 +1,0 @@
--- Each return is the definition at the tests that led there.
-use borrow.Author.Tests.{lt-ltb, le-ltb}
-use Rattle.packet.proofs.dump.digit.Goals as goal
-
-pub returns-then-d-lt10 : goal.returns-then-d-lt10
-returns-then-d-lt10 c = simp (lt-ltb _ _ c.if-d-lt10.true)
-
-pub returns-else-d-lt10 : goal.returns-else-d-lt10
-returns-else-d-lt10 c = simp (le-ltb _ _ c.if-d-lt10.false)
