@@ -1,5 +1,5 @@
 -- What each wrapped call promises, told to C.
-use mathlib.Core.Path.{◌≡◌, sym, ap, ◌∙◌}
+use mathlib.Core.Path.{◌≡◌, ap, ◌∙◌}
 use mathlib.Core.List.{List}
 use Prim.Native.Nat.{ℕ}
 use Rattle.pkt.specs.Written.{Promise}
@@ -43,10 +43,6 @@ tcp_sends f es o o' s r e x = told_to (tcp_for f) e x
 pub datagrams : (x : wb_choices) (w : Choices) (m : Marks) (a b : SocketAddrV4) (p o o' : List ℕ) (k : Result ℕ Refusal) (r : wb_length)
     → w ≡ choices_of x → r ≡ length_for (says k) → Answered (Udp (dgram_of m a b w)) p o k o' → Builds (Udp (dgram_of m a b (choices_of x))) p o r o'
 datagrams x w m a b p o o' k r q e y = told_to length_for e (rw q at y)
-
--- what is told of an answer s that is this one, t
-pub tcp_told : (f : TcpFlow) (s t : Result Sent Refusal) (r : wb_tcp_sent) → s ≡ t → r ≡ tcp_for f (sent_says t) → r ≡ tcp_for f (sent_says s)
-tcp_told f s t r q e = e ∙ ap (λ (x : Result Sent Refusal). tcp_for f (sent_says x)) (sym q)
 
 pub assembly_opens : {k : Key} {d m d' m' : List ℕ} {a : Result Rec Refusal} {r : wb_opened}
     → r ≡ opened_for (says a) → Opens capacity map_bytes k d m a d' m' → AssemblyOpens k d m r d' m'

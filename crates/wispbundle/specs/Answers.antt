@@ -1,6 +1,6 @@
 -- What each answer is to C. The status is 0 where the call was carried out, and else the refusal's number; on a refusal all else is 0, but a
 -- flow or an assembly that was handed in comes back as it was, and a refusal with an index has it.
-use Rattle.std.specs.Prelude.{ℕ, Bool, true, false, cond, get_or, is_some, unwrap_or}
+use Rattle.std.specs.Prelude.{ℕ, true, false, cond, get_or, is_some, unwrap_or}
 use Rattle.std.specs.Bool.{then_some}
 use Rattle.pkt.specs.Answers.{Answer, refused, gives, ListAnswer, refused_whole, refused_at, gives_all}
 use Rattle.tcp4.specs.Tcp4 as tcp

@@ -4,4 +4,4 @@ use mathlib.Core.Path.{ap, ◌∙◌}
 use Rattle.wispbundle.proofs.assembling.wb_assembly_progress.Goals as goal
 
 pub returns : goal.returns
-returns c = c.into.ensures ∙ ap progress_for (rw c.rec_of.ensures at c.progress.ensures)
+returns c = c.into-2.ensures ∙ ap progress_for (rw c.into.ensures at c.progress.ensures)

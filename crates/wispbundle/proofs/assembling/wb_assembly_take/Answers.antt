@@ -4,4 +4,4 @@ use Rattle.wispbundle.proofs.assembling.wb_assembly_take.Goals as goal
 
 pub returns : goal.returns
 returns c =
-    assembly_takes c.taken.ensures (rw c.rec_of.ensures at c.take.ensures)
+    assembly_takes c.taken.ensures (rw c.into.ensures at c.take.ensures)

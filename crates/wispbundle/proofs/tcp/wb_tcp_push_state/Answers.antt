@@ -2,4 +2,4 @@
 use Rattle.wispbundle.proofs.tcp.wb_tcp_push_state.Goals as goal
 
 pub returns : goal.returns
-returns c = rw (c.both.ensures, c.push_state.ensures, c.seq-2.ensures, c.seq.ensures)
+returns c = rw (c.into-3.ensures, c.push_state.ensures, c.into-2.ensures, c.into.ensures)
