@@ -11,15 +11,17 @@ use native.Mathlib.Omega.{arith}
 use lib.ListN.{length, set, length-append}
 use lib.Dec.{ltb, leb}
 use borrow.Author.Tests.{ltb-false, leb-true}
-use Rattle.pkt.specs.Answers.{Answer, refused, gives, most_ip}
+use Rattle.pkt.specs.Answers.{Answer, refused, gives, says, mapped, most_ip}
+use Rattle.pkt.specs.Refusal.{number_of}
+use Rattle.pkt.specs.declared.refusal.Refusal.{Refusal}
+use Rattle.std.specs.Prelude.{Result, Ok, Err}
 use Rattle.pkt.proofs.Choice.{and_both, or_cases}
 use Rattle.pieces.specs.declared.BlockRequest.{BlockRequest}
 use Rattle.planner.specs.declared.Job.{Job}
-use Rattle.planner.specs.declared.Planned.{Planned}
 use Rattle.planner.specs.Cutting.{blocks_in, piece_count, length_at, requests_from, planned}
 use Rattle.planner.proofs.Counting.{count_one, begins_within}
 use Rattle.planner.specs.Steps.{nth_of, firsts}
-use Rattle.planner.specs.Answers.{can_plan, planned_says, plan_answer, count_for, list_after, Decided, Plans}
+use Rattle.planner.specs.Answers.{can_plan, plan_answer, job_for, list_after, Plans}
 use Rattle.pkt.specs.Written.{over}
 
 -- ---- a list that is written from its front, one element after the other
@@ -132,25 +134,40 @@ answer_cases n m places = go (ltb most_ip n) refl (can_plan n m) refl (ltb place
     go false e true f true g = inl (3, simp (e, f, g))
     go false e true f false g = inr (simp (e, f, g), ltb-false _ _ e, f, ltb-false _ _ g)
 
--- there is a place for each request, and what is written is the answer's
-pub decided_writes : (n m : ℕ) (ys : List BlockRequest) (j : Job) → Decided n m (length ys) j
-    → (j.count ≤ length ys) × (filled j ys j.count ≡ list_after (plan_answer n m (length ys)) (planned n m) ys)
-decided_writes n m ys j d = go (answer_cases n m (length ys))
-  where
-    go : Refuses n m (length ys) ⊎ Makes n m (length ys) → (j.count ≤ length ys) × (filled j ys j.count ≡ list_after (plan_answer n m (length ys)) (planned n m) ys)
-    go (inl (x, e)) =
-        let z : j.count ≡ 0 = d.1 ∙ ap count_for e in
-        (omega arith, ap (filled j ys) z ∙ ap (λ (a : Answer ℕ). list_after a (planned n m) ys) (sym e))
-    go (inr (e, few, can, room)) =
-        let c : j.count ≡ piece_count n m = d.1 ∙ ap count_for e in
-        (omega arith, ap (filled j ys) c ∙ ap (λ (l : List BlockRequest). over l ys) (firsts_are j n m few can c d.2 d.3) ∙ ap (λ (a : Answer ℕ). list_after a (planned n m) ys) (sym e))
+module _ (n m : ℕ) (ys : List BlockRequest) where
+  -- where a job is decided, there is a place for each of its requests, and what it writes is the answer's
+  pub decided_writes : (j : Job) → gives j ≡ mapped (job_for n m) (plan_answer n m (length ys))
+      → (j.count ≤ length ys) × ((l : List BlockRequest) → l ≡ filled j ys j.count → Plans n m ys (Ok j.count) l)
+  decided_writes j d = go (answer_cases n m (length ys))
+    where
+      go : Refuses n m (length ys) ⊎ Makes n m (length ys)
+          → (j.count ≤ length ys) × ((l : List BlockRequest) → l ≡ filled j ys j.count → Plans n m ys (Ok j.count) l)
+      go (inl (x, e)) = absurd (cc (d ∙ ap (mapped (job_for n m)) e))
+      go (inr (e, few, can, room)) =
+          let is : j ≡ job_for n m (piece_count n m) = cc (d ∙ ap (mapped (job_for n m)) e) in
+          let c : j.count ≡ piece_count n m = ap (λ (i : Job). i.count) is in (
+            omega arith,
+            λ l w.
+                record {
+                  answer = ap gives c ∙ sym e;
+                  list_is =
+                      w
+                      ∙ ap (filled j ys) c
+                      ∙ ap (λ (l : List BlockRequest). over l ys) (firsts_are j n m few can c (ap (λ (i : Job). i.n) is) (ap (λ (i : Job). i.blocks) is))
+                      ∙ ap (λ (a : Answer ℕ). list_after a (planned n m) ys) (sym e);
+                },
+          )
 
--- .. so that, with the answer that was decided, all is as promised
-pub plans : (n m : ℕ) (ys : List BlockRequest) (j : Job) (k : ℕ) (r : Planned) (l : List BlockRequest) → Decided n m (length ys) j → k ≤ j.count
-    → j.count ≤ k → l ≡ filled j ys k → r ≡ j.answer → Plans n m ys r l
-plans n m ys j k r l d h g el er =
-    let all : k ≡ j.count = omega arith in
-    record {
-      answer = ap planned_says er ∙ d.0;
-      list_is = el ∙ ap (filled j ys) all ∙ (decided_writes n m ys j d).1;
-    }
+  -- where none is, the list stays as it was
+  pub none_decided : (r : Result ℕ Refusal) (x : Refusal) → r ≡ Err x → says {A = Job} (Err x) ≡ mapped (job_for n m) (plan_answer n m (length ys))
+      → Plans n m ys r ys
+  none_decided r x is d = go (answer_cases n m (length ys))
+    where
+      go : Refuses n m (length ys) ⊎ Makes n m (length ys) → Plans n m ys r ys
+      go (inl (y, e)) =
+          let same : number_of x ≡ y = cc (d ∙ ap (mapped (job_for n m)) e) in
+          record {
+            answer = ap (λ (s : Result ℕ Refusal). says s) is ∙ ap refused same ∙ sym e;
+            list_is = ap (λ (a : Answer ℕ). list_after a (planned n m) ys) (sym e);
+          }
+      go (inr (e, few, can, room)) = absurd (cc (d ∙ ap (mapped (job_for n m)) e))

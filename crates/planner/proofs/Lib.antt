@@ -6,7 +6,6 @@ pub mod Making
 pub mod Fewest
 pub mod Planning
 pub mod Computed
-pub mod Steps
 pub mod Checking
 pub mod Firsts
 pub mod Only

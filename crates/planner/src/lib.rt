@@ -1,30 +1,17 @@
 // Cutting plans: a check for lists of block requests, and a planner that writes one.
 #![tactic(auto)]
 
-ghost use Rattle.std.specs.Prelude.{◌≡◌, ◌-◌, min, ◌&&◌};
+ghost use Rattle.std.specs.Prelude.{◌≡◌, ◌&&◌};
+ghost use Rattle.pkt.specs.Answers.{says};
 ghost use Rattle.ezpkt.specs.Build.{start_at, end_at};
 ghost use Rattle.planner.specs.Cutting.{piece_count, length_at};
 ghost use Rattle.planner.specs.Steps.{look_none, may_follow, look_with, complete, nth_of};
-ghost use Rattle.planner.specs.Answers.{judged_says, judge_answer, check_plan, can_plan, planned_says, plan_answer, count_for, Decided, Plans};
+ghost use Rattle.planner.specs.Answers.{judge_answer, check_plan, can_plan, plan_answer, Decided, Plans};
 
 use ezpkt::ip4;
 use pieces::BlockRequest;
-use pkt::{limit, refusal};
-
-// Whether a list is a plan, or the number of the refusal.
-#[derive(Clone, Copy, Drop)]
-pub enum Judged {
-    Yes,
-    No,
-    Refused(u8),
-}
-
-// How many requests were written, or the number of the refusal.
-#[derive(Clone, Copy, Drop)]
-pub enum Planned {
-    Made(usize),
-    Refused(u8),
-}
+use pkt::limit;
+use pkt::refusal::Refusal;
 
 // What is known after so many requests: the bytes before next were carried; whether all was good so far; whether the last has MF clear.
 #[derive(Clone, Copy, Drop)]
@@ -36,32 +23,24 @@ pub struct Look {
     pub ended: bool,
 }
 
-// What is decided: how many requests are written, of n bytes with so many blocks in a full one, and the answer.
+// How many requests are written, of n bytes with so many blocks in a full one.
 #[derive(Clone, Copy, Drop)]
 pub struct Job {
     pub count: usize,
     pub n: usize,
     pub blocks: u16,
-    pub answer: Planned,
-}
-
-// a less b, or 0 where b is more.
-fn less(a: usize, b: usize) -> usize
-    ensures { result ≡ a - b }
-{
-    if a < b { 0 } else { a - b }
 }
 
 // How many pieces n bytes take on a link of m bytes.
 pub fn count(n: usize, m: usize) -> usize
     ensures { result ≡ piece_count n m }
 {
-    let room = less(m, 20);
+    let room = m.saturating_sub(20);
     let full = room / 8 * 8;
     if full == 0 {
         return 1;
     }
-    1 + (less(n, room) + (full - 1)) / full
+    1 + n.saturating_sub(room).div_ceil(full)
 }
 
 // The length in blocks of the piece at block off of n bytes, with so many pieces behind it and so many blocks in a full one.
@@ -71,8 +50,7 @@ pub fn length_at(blocks: usize, behind: usize, off: u16, n: usize) -> usize
     if behind > 0 {
         return blocks;
     }
-    let left = less(n, 8 * (off as usize));
-    left / 8 + (left % 8 + 7) / 8
+    n.saturating_sub(8 * (off as usize)).div_ceil(8)
 }
 
 // Before the first request.
@@ -88,23 +66,16 @@ pub fn look_none(n: usize, m: usize) -> Look
     }
 }
 
-// a, or n where a is more.
-fn within(a: usize, n: usize) -> usize
-    ensures { result ≡ min a n }
-{
-    if a < n { a } else { n }
-}
-
 fn start_of(r: BlockRequest, n: usize) -> usize
     ensures { result ≡ start_at r.off n }
 {
-    within(8 * (r.off as usize), n)
+    (8 * (r.off as usize)).min(n)
 }
 
 fn end_of(r: BlockRequest, n: usize) -> usize
     ensures { result ≡ end_at r.off r.len n }
 {
-    within(8 * (r.off as usize) + 8 * (r.len as usize), n)
+    (8 * (r.off as usize) + 8 * (r.len as usize)).min(n)
 }
 
 // Whether a request may stand next.
@@ -140,10 +111,7 @@ fn next_after(look: Look, r: BlockRequest) -> usize
 fn good_after(look: Look, r: BlockRequest) -> bool
     ensures { result ≡ look.good && may_follow look r }
 {
-    if look.good {
-        return may_follow(look, r);
-    }
-    false
+    look.good && may_follow(look, r)
 }
 
 // One request more.
@@ -163,39 +131,28 @@ pub fn look_at(look: Look, r: BlockRequest) -> Look
 fn is_complete(last: Look) -> bool
     ensures { result ≡ complete last }
 {
-    if last.good {
-        if last.ended {
-            return last.next == last.n;
-        }
-    }
-    false
+    last.good && last.ended && last.next == last.n
 }
 
 // The answer where so much is known after the last request.
-pub fn judge(look: Look) -> Judged
-    ensures { judged_says result ≡ judge_answer look.n (complete look) }
+pub fn judge(look: Look) -> Result<bool, Refusal>
+    ensures { says result ≡ judge_answer look.n (complete look) }
 {
     if look.n > limit::IP_PAYLOAD {
-        return Judged::Refused(refusal::TOO_LONG);
+        return Err(Refusal::TooLong);
     }
-    if is_complete(look) {
-        Judged::Yes
-    } else {
-        Judged::No
-    }
+    Ok(is_complete(look))
 }
 
 // Whether the list is a plan of n bytes for a link of m, or 1 where n is above 65,515.
-pub fn is_plan(n: usize, m: usize, list: &[BlockRequest]) -> Judged
-    ensures { judged_says result ≡ check_plan n m list.now }
+pub fn is_plan(n: usize, m: usize, list: &[BlockRequest]) -> Result<bool, Refusal>
+    ensures { says result ≡ check_plan n m list.now }
 {
-    let mut k = look_none(n, m);
-    let mut i: usize = 0;
-    while i < list.len() {
-        k = look_at(k, list[i]);
-        i = i + 1;
+    let mut look = look_none(n, m);
+    for r in list {
+        look = look_at(look, *r);
     }
-    judge(k)
+    judge(look)
 }
 
 // Whether there is a plan of n bytes for a link of m.
@@ -212,43 +169,32 @@ fn can_plan(n: usize, m: usize) -> bool
 }
 
 // The answer for a list of so many places.
-fn plan_answer(n: usize, m: usize, places: usize) -> Planned
-    ensures { planned_says result ≡ plan_answer n m places }
+fn plan_answer(n: usize, m: usize, places: usize) -> Result<usize, Refusal>
+    ensures { says result ≡ plan_answer n m places }
 {
     if n > limit::IP_PAYLOAD {
-        return Planned::Refused(refusal::TOO_LONG);
+        return Err(Refusal::TooLong);
     }
     if !can_plan(n, m) {
-        return Planned::Refused(refusal::NO_PLAN);
+        return Err(Refusal::NoPlan);
     }
     let fewest = count(n, m);
     if places < fewest {
-        return Planned::Refused(refusal::NO_ROOM);
+        return Err(Refusal::NoRoom);
     }
-    Planned::Made(fewest)
-}
-
-// How many requests are written where this is answered.
-fn count_for(answer: Planned) -> usize
-    ensures { result ≡ count_for (planned_says answer) }
-{
-    match answer {
-        Planned::Made(k) => k,
-        Planned::Refused(_) => 0,
-    }
+    Ok(fewest)
 }
 
 // What is decided for a list of so many places.
-pub fn decide(n: usize, m: usize, places: usize) -> Job
+pub fn decide(n: usize, m: usize, places: usize) -> Result<Job, Refusal>
     ensures { Decided n m places result }
 {
-    let answer = plan_answer(n, m, places);
-    Job {
-        count: count_for(answer),
+    let count = plan_answer(n, m, places)?;
+    Ok(Job {
+        count,
         n,
-        blocks: (less(m, 20) / 8 % 65536) as u16,
-        answer,
-    }
+        blocks: (m.saturating_sub(20) / 8 % 65536) as u16,
+    })
 }
 
 // The request at index k.
@@ -257,28 +203,21 @@ pub fn nth(job: Job, k: usize) -> BlockRequest
 {
     let blocks = job.blocks as usize;
     let off = (k % 8192 * blocks % 65536) as u16;
-    let len = length_at(blocks, less(less(job.count, 1), k), off, job.n);
+    let behind = job.count.saturating_sub(1).saturating_sub(k);
+    let len = length_at(blocks, behind, off, job.n);
     BlockRequest {
         off,
         len: (len % 65536) as u16,
     }
 }
 
-fn the_answer(job: Job) -> Planned
-    ensures { result ≡ job.answer }
-{
-    job.answer
-}
-
 // Writes the fewest requests that carry n bytes on a link of m into the front of the list; or refuses and leaves it as it was.
-pub fn plan(n: usize, m: usize, list: &mut [BlockRequest]) -> Planned
+pub fn plan(n: usize, m: usize, list: &mut [BlockRequest]) -> Result<usize, Refusal>
     ensures { Plans n m list.old result list.new }
 {
-    let job = decide(n, m, list.len());
-    let mut k: usize = 0;
-    while k < job.count {
+    let job = decide(n, m, list.len())?;
+    for k in 0..job.count {
         list[k] = nth(job, k);
-        k = k + 1;
     }
-    the_answer(job)
+    Ok(job.count)
 }

@@ -20,7 +20,7 @@ and_fails false = refl
 -- ---- a number
 
 -- a choice that is some value, and one that is none
-is_some_lem : {A : Type 0} (b : Bool) (v n : A) → Some n ≡ cond b (Some v) None → (b ≡ true) × (n ≡ v)
+pub is_some_lem : {A : Type 0} (b : Bool) (v n : A) → Some n ≡ cond b (Some v) None → (b ≡ true) × (n ≡ v)
 is_some_lem true v n e = (refl, cc)
 is_some_lem false v n e = absurd cc
 

@@ -1,10 +1,7 @@
 -- After k turns the first k requests stand in the front of the list.
-use Rattle.std.proofs.Common.{◌≡◌, ◌-◌, ◌≤◌}
+use Rattle.std.proofs.Common.{◌≡◌}
 use Rattle.planner.proofs.Firsts.{filled}
 use Rattle.planner.proofs.plan.Given as goal
 
 abbrev pub invariant-loop-k : goal.invariant-loop-k
-invariant-loop-k l = (l.k ≤ l.job.count) × (l.list ≡ filled l.job l.fn.list l.k)
-
-abbrev pub decreases-loop-k : goal.decreases-loop-k
-decreases-loop-k l = l.job.count - l.k
+invariant-loop-k l = l.list ≡ filled l.job l.fn.list l.k
