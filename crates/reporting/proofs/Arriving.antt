@@ -1,9 +1,12 @@
 -- How a segment arrives, by how far its number lies ahead of the one that is expected.
-use Rattle.std.proofs.Common.{◌≡◌, ℕ, zero, suc, ◌+◌, ◌-◌, ◌%◌, ◌^◌, ◌<◌, ◌≤◌, cond, ltb, pos, negsuc, sym, refl, ap, ◌∙◌, arith, le-ltb, lt-ltb, eq-eqb, ne_eqb}
+use denote.Enum.Bare.{sameb}
+use mir.Val.{bool_byte}
+use Rattle.std.proofs.Common.{Bool, ◌≡◌, ℕ, zero, suc, ◌+◌, ◌-◌, ◌%◌, ◌^◌, ◌<◌, ◌≤◌, cond, ltb, pos, negsuc, sym, refl, ap, ◌∙◌, arith, le-ltb, lt-ltb, eq-eqb, ne_eqb}
 use Rattle.pkt.proofs.Choice.{pick_yes, pick_no}
 use Rattle.pkt.specs.Rfc9293.{FIN, SYN}
 use Rattle.tcp4.specs.Tcp4.{set_in}
 use Rattle.reporting.specs.Sides.{cycle, half_cycle, ahead, arrival_by, arrival_of, behind_it, next_by, as_expected, as_early, as_late, tallied, side_after}
+use Rattle.reporting.specs.contracts.Arrival.{the_type}
 use Rattle.reporting.specs.declared.Tally.{Tally}
 use Rattle.reporting.specs.declared.Segment.{Segment}
 use Rattle.reporting.specs.declared.Arrival.{Arrival}
@@ -68,6 +71,22 @@ pub late_most : (a : Arrival) → as_late a ≤ 1
 late_most Expected = omega arith
 late_most Early = omega arith
 late_most Late = omega arith
+
+-- what is added where the segment arrived so
+pub counts_expected : (a : Arrival) (e : Bool) (x : ℕ) → e ≡ sameb the_type a Expected → x ≡ bool_byte e → x ≡ as_expected a
+counts_expected Expected e x f g = g ∙ ap bool_byte f
+counts_expected Early e x f g = g ∙ ap bool_byte f
+counts_expected Late e x f g = g ∙ ap bool_byte f
+
+pub counts_early : (a : Arrival) (e : Bool) (x : ℕ) → e ≡ sameb the_type a Early → x ≡ bool_byte e → x ≡ as_early a
+counts_early Expected e x f g = g ∙ ap bool_byte f
+counts_early Early e x f g = g ∙ ap bool_byte f
+counts_early Late e x f g = g ∙ ap bool_byte f
+
+pub counts_late : (a : Arrival) (e : Bool) (x : ℕ) → e ≡ sameb the_type a Late → x ≡ bool_byte e → x ≡ as_late a
+counts_late Expected e x f g = g ∙ ap bool_byte f
+counts_late Early e x f g = g ∙ ap bool_byte f
+counts_late Late e x f g = g ∙ ap bool_byte f
 
 -- a side after a segment, each number by itself
 pub tally_is : (t : Tally) (s : Segment) (a : Arrival) (syn fin x y z n : ℕ) → a ≡ arrival_of t s → syn ≡ set_in s.flags SYN → fin ≡ set_in s.flags FIN

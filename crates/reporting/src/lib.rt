@@ -1,11 +1,11 @@
 // A report of one TCP flow over the packets of a lent slice: what each side sent, and how it arrived.
 #![tactic(auto)]
 
-ghost use Rattle.std.specs.Prelude.{◌≡◌, ◌≤◌, true};
+ghost use Rattle.std.specs.Prelude.{◌≡◌, ◌<◌, ◌≤◌, true, length, IfSome, IfNone};
 ghost use Rattle.pkt.specs.Answers.{most_bytes};
 ghost use Rattle.tcp4.specs.Tcp4.{set_in};
 ghost use Rattle.inspect.specs.Answers.{checked_says};
-ghost use Rattle.reporting.specs.Sides.{ahead, arrival_of, behind_it, next_by, as_expected, as_early, as_late, no_segments, side_after, Few};
+ghost use Rattle.reporting.specs.Sides.{ahead, arrival_of, behind_it, next_by, no_segments, side_after, Few};
 ghost use Rattle.reporting.specs.Packets.{is_passed, passes, same_end, goes, sided, tcp_class, class_of};
 ghost use Rattle.reporting.specs.Report.{cut_at, first_wrong, nothing_yet, report_after, HasRoom, report_of, most_packets, InOrder, Reports};
 
@@ -64,7 +64,7 @@ struct Segment {
 }
 
 // How a segment arrives.
-#[derive(Clone, Copy, Drop)]
+#[derive(Clone, Copy, PartialEq, Eq, Drop)]
 enum Arrival {
     Expected,
     Early,
@@ -83,7 +83,7 @@ enum Class {
 fn ahead_of(next: u32, seq: u32) -> u32
     ensures { result ≡ ahead next seq }
 {
-    std::num::wrapping_sub_u32(seq, next)
+    seq.wrapping_sub(next)
 }
 
 fn arrives(t: Tally, s: Segment) -> Arrival
@@ -116,7 +116,7 @@ fn behind(s: Segment) -> u32
     ensures { result ≡ behind_it s }
 {
     let consumed = s.size + set_in(s.flags, ipv4::TCP_SYN) + set_in(s.flags, ipv4::TCP_FIN);
-    std::num::wrapping_add_u32(s.seq, consumed as u32)
+    s.seq.wrapping_add(consumed as u32)
 }
 
 fn next_by(a: Arrival, next: u32, s: Segment) -> u32
@@ -127,36 +127,6 @@ fn next_by(a: Arrival, next: u32, s: Segment) -> u32
         Arrival::Expected => behind(s),
         Arrival::Early => behind(s),
         Arrival::Late => next,
-    }
-}
-
-fn as_expected(a: Arrival) -> usize
-    ensures { result ≡ as_expected a }
-{
-    match a {
-        Arrival::Expected => 1,
-        Arrival::Early => 0,
-        Arrival::Late => 0,
-    }
-}
-
-fn as_early(a: Arrival) -> usize
-    ensures { result ≡ as_early a }
-{
-    match a {
-        Arrival::Expected => 0,
-        Arrival::Early => 1,
-        Arrival::Late => 0,
-    }
-}
-
-fn as_late(a: Arrival) -> usize
-    ensures { result ≡ as_late a }
-{
-    match a {
-        Arrival::Expected => 0,
-        Arrival::Early => 0,
-        Arrival::Late => 1,
     }
 }
 
@@ -171,9 +141,9 @@ fn side_after(t: Tally, s: Segment) -> Tally
         bytes: t.bytes + s.size,
         syns: t.syns + set_in(s.flags, ipv4::TCP_SYN),
         fins: t.fins + set_in(s.flags, ipv4::TCP_FIN),
-        expected: t.expected + as_expected(a),
-        early: t.early + as_early(a),
-        late: t.late + as_late(a),
+        expected: t.expected + usize::from(a == Arrival::Expected),
+        early: t.early + usize::from(a == Arrival::Early),
+        late: t.late + usize::from(a == Arrival::Late),
         next: next_by(a, t.next, s),
     }
 }
@@ -325,24 +295,22 @@ fn nothing_yet() -> Report
     }
 }
 
-// The first index whose end lies below the one before or past n bytes, or how many ends there are.
-fn first_wrong(ends: &[usize], n: usize) -> usize
-    ensures { result ≡ first_wrong 0 n ends.now }
+// The first index whose end lies below the one before or past n bytes, where there is one.
+fn first_wrong(ends: &[usize], n: usize) -> Option<usize>
+    ensures found { IfSome result (λ i. (i < length ends.now) × (i ≡ first_wrong 0 n ends.now)) }
+    ensures none { IfNone result (first_wrong 0 n ends.now ≡ length ends.now) }
 {
     let mut at = 0;
-    let mut i = 0;
-    while i < ends.len() {
-        let end = ends[i];
+    for (i, &end) in ends.iter().enumerate() {
         if end < at {
-            return i;
+            return Some(i);
         }
         if n < end {
-            return i;
+            return Some(i);
         }
         at = end;
-        i += 1;
     }
-    i
+    None
 }
 
 // The report of packets whose ends are in order.
@@ -352,12 +320,9 @@ fn report_of(packets: &[u8], ends: &[usize], cl: SocketAddrV4, sv: SocketAddrV4)
 {
     let mut r = nothing_yet();
     let mut at = 0;
-    let mut i = 0;
-    while i < ends.len() {
-        let end = ends[i];
+    for &end in ends {
         r = report_after(r, class_of(cl, sv, &packets[at..end]));
         at = end;
-        i += 1;
     }
     r
 }
@@ -369,8 +334,7 @@ pub fn flow_report(packets: &[u8], ends: &[usize], cl: SocketAddrV4, sv: SocketA
     if PACKETS < ends.len() {
         return Reported::Refused(refusal::TOO_MANY);
     }
-    let first = first_wrong(ends, packets.len());
-    if first < ends.len() {
+    if let Some(first) = first_wrong(ends, packets.len()) {
         return Reported::RefusedAt(refusal::BROKEN, first);
     }
     Reported::Is(report_of(packets, ends, cl, sv))

@@ -11,6 +11,3 @@ overflow_add-consumed c = omega arith
 
 pub overflow_add-consumed-2 : goal.overflow_add-consumed-2
 overflow_add-consumed-2 c = omega arith
-
-pub overflow_cast-consumed : goal.overflow_cast-consumed
-overflow_cast-consumed c = omega arith
