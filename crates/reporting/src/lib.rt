@@ -5,9 +5,9 @@ ghost use Rattle.std.specs.Prelude.{◌≡◌, ◌<◌, ◌≤◌, true, length,
 ghost use Rattle.pkt.specs.Answers.{most_bytes};
 ghost use Rattle.tcp4.specs.Tcp4.{set_in};
 ghost use Rattle.inspect.specs.Answers.{checked_says};
-ghost use Rattle.reporting.specs.Sides.{ahead, arrival_of, behind_it, next_by, no_segments, side_after, Few};
+ghost use Rattle.reporting.specs.Sides.{ahead, arrival_of, behind_it, next_by, side_after, Few};
 ghost use Rattle.reporting.specs.Packets.{is_passed, passes, same_end, goes, sided, tcp_class, class_of};
-ghost use Rattle.reporting.specs.Report.{cut_at, first_wrong, nothing_yet, report_after, HasRoom, report_of, most_packets, InOrder, Reports};
+ghost use Rattle.reporting.specs.Report.{cut_at, first_wrong, report_after, HasRoom, report_of, most_packets, InOrder, Reports};
 
 use ezpkt::SocketAddrV4;
 use inspect::check::Checked;
@@ -26,7 +26,7 @@ const HALF: u32 = 0x80000000;
 
 // What one side sent: segments, payload bytes, SYNs, FINs, how many segments arrived as expected, early and late, and the sequence number that is
 // expected next, which is 0 before the first segment.
-#[derive(Clone, Copy, Drop)]
+#[derive(Clone, Copy, Default, Drop)]
 pub struct Tally {
     pub segments: usize,
     pub bytes: usize,
@@ -39,7 +39,7 @@ pub struct Tally {
 }
 
 // Both sides of a flow, how many packets failed the check, and how many were of other flows.
-#[derive(Clone, Copy, Drop)]
+#[derive(Clone, Copy, Default, Drop)]
 pub struct Report {
     pub cl: Tally,
     pub sv: Tally,
@@ -269,32 +269,6 @@ fn report_after(r: Report, class: Class) -> Report
     }
 }
 
-fn no_segments() -> Tally
-    ensures { result ≡ no_segments }
-{
-    Tally {
-        segments: 0,
-        bytes: 0,
-        syns: 0,
-        fins: 0,
-        expected: 0,
-        early: 0,
-        late: 0,
-        next: 0,
-    }
-}
-
-fn nothing_yet() -> Report
-    ensures { result ≡ nothing_yet }
-{
-    Report {
-        cl: no_segments(),
-        sv: no_segments(),
-        failed: 0,
-        others: 0,
-    }
-}
-
 // The first index whose end lies below the one before or past n bytes, where there is one.
 fn first_wrong(ends: &[usize], n: usize) -> Option<usize>
     ensures found { IfSome result (λ i. (i < length ends.now) × (i ≡ first_wrong 0 n ends.now)) }
@@ -318,7 +292,7 @@ fn report_of(packets: &[u8], ends: &[usize], cl: SocketAddrV4, sv: SocketAddrV4)
     requires { InOrder packets.now ends.now }
     ensures { result ≡ report_of cl sv (cut_at 0 ends.now packets.now) }
 {
-    let mut r = nothing_yet();
+    let mut r = Report::default();
     let mut at = 0;
     for &end in ends {
         r = report_after(r, class_of(cl, sv, &packets[at..end]));
