@@ -49,12 +49,6 @@ arrives_late t s n h e l = behind_first t s Late h (gap_down n l ∙ ap by_gap e
 pub behind_is : (s : Segment) (x y r : ℕ) → x ≡ set_in s.flags SYN → y ≡ set_in s.flags FIN → r ≡ (s.seq + (s.size + x + y)) % 2 ^ 32 → r ≡ behind_it s
 behind_is s x y r e f g = g ∙ ap (λ (n : ℕ). (s.seq + n) % cycle) (ap (λ (n : ℕ). s.size + n + y) e ∙ ap (λ (n : ℕ). s.size + set_in s.flags SYN + n) f)
 
-pub moves_expected : (a : Arrival) (next : ℕ) (s : Segment) (r : ℕ) → a ≡ Expected → r ≡ behind_it s → r ≡ next_by a next s
-moves_expected a next s r e f = f ∙ sym (ap (λ (b : Arrival). next_by b next s) e)
-
-pub moves_early : (a : Arrival) (next : ℕ) (s : Segment) (r : ℕ) → a ≡ Early → r ≡ behind_it s → r ≡ next_by a next s
-moves_early a next s r e f = f ∙ sym (ap (λ (b : Arrival). next_by b next s) e)
-
 -- ---- one is counted, or none
 
 pub expected_most : (a : Arrival) → as_expected a ≤ 1

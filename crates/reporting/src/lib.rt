@@ -124,13 +124,13 @@ fn next_by(a: Arrival, next: u32, s: Segment) -> u32
     ensures { result ≡ next_by a next s }
 {
     match a {
-        Arrival::Expected => behind(s),
-        Arrival::Early => behind(s),
+        Arrival::Expected | Arrival::Early => behind(s),
         Arrival::Late => next,
     }
 }
 
 // A side after one segment more.
+#[tactic(auto, unfolding(crate::specs::Sides::tallied))]
 fn side_after(t: Tally, s: Segment) -> Tally
     requires { (s.size ≤ most_bytes) × Few most_packets t }
     ensures { result ≡ side_after t s }
@@ -242,29 +242,27 @@ fn class_of(cl: SocketAddrV4, sv: SocketAddrV4, packet: &[u8]) -> Class
 }
 
 // A report after one packet more.
+#[tactic(auto, unfolding(crate::specs::Report::report_after, crate::specs::Report::HasRoom))]
 fn report_after(r: Report, class: Class) -> Report
     requires { HasRoom r class }
     ensures { result ≡ report_after r class }
 {
-    let mut q = r;
     match class {
-        Class::Failed => {
-            q.failed = r.failed + 1;
-            q
-        }
-        Class::Other => {
-            q.others = r.others + 1;
-            q
-        }
-        Class::Own(side, s) => match side {
-            Side::Client => {
-                q.cl = side_after(r.cl, s);
-                q
-            }
-            Side::Server => {
-                q.sv = side_after(r.sv, s);
-                q
-            }
+        Class::Failed => Report {
+            failed: r.failed + 1,
+            ..r
+        },
+        Class::Other => Report {
+            others: r.others + 1,
+            ..r
+        },
+        Class::Own(Side::Client, s) => Report {
+            cl: side_after(r.cl, s),
+            ..r
+        },
+        Class::Own(Side::Server, s) => Report {
+            sv: side_after(r.sv, s),
+            ..r
         },
     }
 }
