@@ -232,6 +232,7 @@ fn passed_class(cl: SocketAddrV4, sv: SocketAddrV4, packet: &[u8]) -> Class
 }
 
 // The class of a packet, which is checked once.
+#[tactic(auto, unfolding(crate::specs::Packets::class_of))]
 fn class_of(cl: SocketAddrV4, sv: SocketAddrV4, packet: &[u8]) -> Class
     ensures { result ≡ class_of cl sv packet.now }
 {
@@ -268,6 +269,7 @@ fn report_after(r: Report, class: Class) -> Report
 }
 
 // The first index whose end lies below the one before or past n bytes, where there is one.
+#[tactic(auto, using(crate::proofs::Cutting::below_here, crate::proofs::Cutting::past_here, crate::proofs::Cutting::right_here, crate::proofs::Cutting::none_left))]
 fn first_wrong(ends: &[usize], n: usize) -> Option<usize>
     ensures found { IfSome result (λ i. (i < length ends.now) × (i ≡ first_wrong 0 n ends.now)) }
     ensures none { IfNone result (first_wrong 0 n ends.now ≡ length ends.now) }
