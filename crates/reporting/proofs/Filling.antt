@@ -1,9 +1,8 @@
 -- No number of a report is above that of the packets, so that there is room for the next.
-use Rattle.std.proofs.Common.{◌≡◌, ℕ, suc, ◌+◌, ◌≤◌, Bool, true, false, cond, eqb, List, length, sym, refl, ap, ◌∙◌, subst, arith}
+use Rattle.std.proofs.Common.{◌≡◌, ℕ, suc, ◌≤◌, Bool, true, false, cond, eqb, List, length, refl, arith}
 use Rattle.pkt.specs.Answers.{most_bytes}
 use Rattle.pkt.specs.Fields.{Bytes}
 use Rattle.ezpkt.specs.declared.SocketAddrV4.{SocketAddrV4}
-use Rattle.tcp4.specs.declared.Side.{Side}
 use Rattle.tcp4.specs.declared.Side.TheVariants.{Client, Server}
 use Rattle.inspect.specs.Header.{header_of, data_of}
 use Rattle.inspect.specs.Tcp.{tcp_of}

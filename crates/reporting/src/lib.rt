@@ -288,6 +288,7 @@ fn first_wrong(ends: &[usize], n: usize) -> Option<usize>
 }
 
 // The report of packets whose ends are in order.
+#[tactic(auto, using(crate::proofs::Turning::next_right, crate::proofs::Turning::next_room, crate::proofs::Turning::turns, crate::proofs::Turning::ends))]
 fn report_of(packets: &[u8], ends: &[usize], cl: SocketAddrV4, sv: SocketAddrV4) -> Report
     requires { InOrder packets.now ends.now }
     ensures { result ≡ report_of cl sv (cut_at 0 ends.now packets.now) }
