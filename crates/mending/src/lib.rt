@@ -34,31 +34,24 @@ struct Passed {
     pub last: Step,
 }
 
-// A byte at a place of out, where out goes so far.
-fn put_byte(b: u8, at: usize, out: &mut [u8])
-    ensures { out.new ≡ set out.old at b }
+// A value at a place of a list, where the list goes so far.
+fn put_at<T: Copy>(value: T, at: usize, list: &mut [T])
+    ensures { list.new ≡ set list.old at value }
 {
-    if at < out.len() {
-        out[at] = b;
+    if at < list.len() {
+        list[at] = value;
     }
 }
 
 // A number in the two bytes of out from a place on, as far as out goes.
+#[tactic(auto, unfolding(crate::specs::Sums::renewed))]
 fn put_number(x: u16, at: usize, out: &mut [u8])
     requires { at + 1 < 2 ^ 64 }
     ensures { out.new ≡ renewed at x out.old }
 {
-    put_byte((x / 256 % 256) as u8, at, out);
-    put_byte((x % 256) as u8, at + 1, out);
-}
-
-// A row at a place of a list, where the list goes so far.
-fn put_row(row: [usize; 4], at: usize, rows: &mut [[usize; 4]])
-    ensures { rows.new ≡ set rows.old at row }
-{
-    if at < rows.len() {
-        rows[at] = row;
-    }
+    let [high, low] = x.to_be_bytes();
+    put_at(high, at, out);
+    put_at(low, at + 1, out);
 }
 
 // The which-th field f of record k, whose packet stands at a place: its number is put, and where that changes it, the change is listed behind
@@ -79,7 +72,7 @@ fn put_sum(
     if f.old == f.new {
         return changes;
     }
-    put_row([k, which, f.old as usize, f.new as usize], changes, rows);
+    put_at([k, which, f.old as usize, f.new as usize], changes, rows);
     changes + 1
 }
 

@@ -32,11 +32,12 @@ pub enum Sums {
 }
 
 // The number in two bytes.
+#[tactic(auto, using(inspect::proofs::Numbers::field_two))]
 fn be16(s: &[u8], at: usize) -> u16
     requires { at + 2 ≤ length s.now }
     ensures { result ≡ field_at s.now at 2 }
 {
-    (s[at] as u16) * 256 + s[at + 1] as u16
+    u16::from_be_bytes([s[at], s[at + 1]])
 }
 
 // Where the checksum stands in a header.

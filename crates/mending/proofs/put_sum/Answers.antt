@@ -31,4 +31,4 @@ pub returns : goal.returns
 returns c =
     let a = c.args in
     put_changed a.k a.which a.start a.f a.changes a.out.now _ a.rows.now c.put_number.ensures _ (λ e. omega arith)
-    c.put_row.ensures
+    c.put_at.ensures
