@@ -56,6 +56,7 @@ fn put_number(x: u16, at: usize, out: &mut [u8])
 
 // The which-th field f of record k, whose packet stands at a place: its number is put, and where that changes it, the change is listed behind
 // the others. How many changes there are then.
+#[tactic(auto, unfolding(crate::specs::Pass::SumsAsk))]
 fn put_sum(
     k: usize,
     which: usize,
@@ -76,11 +77,12 @@ fn put_sum(
     changes + 1
 }
 
-// The fields of record k, whose packet stands at a place.
+// The fields of record k, whose packet stands at a place, if it has any.
+#[tactic(auto, unfolding(crate::specs::Pass::SumsAsk))]
 fn put_sums(
     k: usize,
     start: usize,
-    fields: Sums,
+    fields: Option<Sums>,
     changes: usize,
     out: &mut [u8],
     rows: &mut [[usize; 4]],
@@ -88,13 +90,13 @@ fn put_sums(
     requires { SumsAsk (sums_says fields) start changes }
     ensures { Put (listed k 0 start (sums_says fields)) changes out.old rows.old result out.new rows.new }
 {
-    match fields {
-        Sums::Neither => changes,
-        Sums::Ip(f) => put_sum(k, IPV4, start, f, changes, out, rows),
-        Sums::Both(f, g) => {
-            let then = put_sum(k, IPV4, start, f, changes, out, rows);
-            put_sum(k, TRANSPORT, start, g, then, out, rows)
-        }
+    let Some(sums) = fields else {
+        return changes;
+    };
+    let then = put_sum(k, IPV4, start, sums.ip, changes, out, rows);
+    match sums.part {
+        None => then,
+        Some(part) => put_sum(k, TRANSPORT, start, part, then, out, rows),
     }
 }
 

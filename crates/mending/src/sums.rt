@@ -1,5 +1,5 @@
 // The checksums of one packet, worked out anew.
-ghost use Rattle.std.specs.Prelude.{◌≡◌, ◌+◌, ◌%◌, ◌≤◌, length};
+ghost use Rattle.std.specs.Prelude.{◌≡◌, ◌+◌, ◌%◌, ◌≤◌, length, option_to_list};
 ghost use Rattle.pkt.specs.Answers.{gives, summed, most_ip};
 ghost use Rattle.pkt.specs.Rfc1071.{checksum};
 ghost use Rattle.pkt.specs.Rfc768.{nonzero};
@@ -7,7 +7,7 @@ ghost use Rattle.pkt.specs.Rfc792.{echo_sum_at};
 ghost use Rattle.inspect.specs.Answers.{whole};
 ghost use Rattle.inspect.specs.Header.{field_at, frame_answer};
 ghost use Rattle.inspect.specs.Check.{examine_answer};
-ghost use Rattle.mending.specs.Sums.{renewed, ip_sum, PartAsks, behind_pseudo, field_of, fields_of, sums_in, sums_says};
+ghost use Rattle.mending.specs.Sums.{renewed, ip_sum, PartAsks, behind_pseudo, field_of, part_fields, sums_in, sums_says};
 
 use inspect::check;
 use inspect::check::{Examined, Kind};
@@ -23,12 +23,11 @@ pub struct SumField {
     pub new: u16,
 }
 
-// The fields of a packet that are worked out anew: neither, the header's, or both the header's and the transport's.
+// The fields of a packet that are worked out anew: the header's, and the transport's where it has one that is summed.
 #[derive(Clone, Copy, Drop)]
-pub enum Sums {
-    Neither,
-    Ip(SumField),
-    Both(SumField, SumField),
+pub struct Sums {
+    pub ip: SumField,
+    pub part: Option<SumField>,
 }
 
 // The number in two bytes.
@@ -120,43 +119,41 @@ fn icmp_sum(part: &[u8]) -> u16
     number(ipv4::icmp_csum(h, echo, &part[8..]))
 }
 
-// The fields of a packet with this header and of this kind.
-fn of_whole(h: IpRead, kind: Kind, packet: &[u8]) -> Sums
+// The transport's field of a packet with this header and of this kind, where it is summed.
+#[tactic(auto, unfolding(crate::specs::Sums::part_fields))]
+fn part_field(h: IpRead, kind: Kind, packet: &[u8]) -> Option<SumField>
     requires { examine_answer packet.now ≡ gives (whole h kind) }
-    ensures { sums_says result ≡ fields_of (gives (whole h kind)) packet.now }
+    ensures { option_to_list result ≡ part_fields kind h packet.now }
 {
     let start = h.start;
     let end = h.end;
-    let ip = field(packet, IP_SUM, ip_sum(h, packet));
     let part = &packet[start..end];
     match kind {
-        Kind::Tcp => Sums::Both(
-            ip,
-            field(
-                packet,
-                start + TCP_SUM,
-                behind_pseudo(h, proto::TCP, TCP_SUM, part),
-            ),
-        ),
-        Kind::Udp => Sums::Both(
-            ip,
-            field(
-                packet,
-                start + UDP_SUM,
-                nonzero_of(behind_pseudo(h, proto::UDP, UDP_SUM, part)),
-            ),
-        ),
-        Kind::Bare => Sums::Ip(ip),
-        Kind::Icmp => Sums::Both(ip, field(packet, start + ICMP_SUM, icmp_sum(part))),
+        Kind::Tcp => Some(field(
+            packet,
+            start + TCP_SUM,
+            behind_pseudo(h, proto::TCP, TCP_SUM, part),
+        )),
+        Kind::Udp => Some(field(
+            packet,
+            start + UDP_SUM,
+            nonzero_of(behind_pseudo(h, proto::UDP, UDP_SUM, part)),
+        )),
+        Kind::Bare => None,
+        Kind::Icmp => Some(field(packet, start + ICMP_SUM, icmp_sum(part))),
     }
 }
 
-// The fields of a packet that are worked out anew.
-pub(crate) fn sums_in(packet: &[u8]) -> Sums
+// The fields of a packet that are worked out anew, if it is one that the check up to its sums would not refuse.
+#[tactic(auto, unfolding(crate::specs::Sums::sums_in))]
+pub(crate) fn sums_in(packet: &[u8]) -> Option<Sums>
     ensures { sums_says result ≡ sums_in packet.now }
 {
-    match check::examine(packet) {
-        Examined::Refused(_) => Sums::Neither,
-        Examined::Whole(h, kind) => of_whole(h, kind, packet),
-    }
+    let Examined::Whole(h, kind) = check::examine(packet) else {
+        return None;
+    };
+    Some(Sums {
+        ip: field(packet, IP_SUM, ip_sum(h, packet)),
+        part: part_field(h, kind, packet),
+    })
 }
