@@ -1,4 +1,4 @@
--- What a packet that passes the check has.
+-- What a packet that passes the check has, and the class that tests lead to.
 use Rattle.std.proofs.Common.{◌≡◌, ℕ, ◌≤◌, Bool, true, false, cond, List, length, sym, refl, ap, ◌∙◌, subst, ap₂, true≢false, arith, length-drop, length-take, ltb-false, eq-eqb, ne_eqb}
 use Rattle.pkt.specs.Answers.{Answer, refused, gives, and_then, most_bytes}
 use Rattle.pkt.specs.Fields.{Bytes}
@@ -6,16 +6,28 @@ use Rattle.pkt.proofs.Choice.{pick_yes, pick_no, or_no}
 use Rattle.pkt.proofs.Deciding.{past}
 use Rattle.pkt.specs.declared.ipv4.tcp_hdr.{tcp_hdr}
 use Rattle.ezpkt.specs.declared.SocketAddrV4.{SocketAddrV4}
-use Rattle.inspect.specs.Answers.{Verdict}
+use Rattle.tcp4.specs.declared.Side.TheVariants.{Client, Server}
 use Rattle.inspect.specs.Header.{header_of, data_of, frame_answer, read_answer}
 use Rattle.inspect.specs.Check.{tcp_cut, is_cut, is_piece, is_other, whole_answer, part_answer, check_answer, verdict_of}
 use Rattle.inspect.specs.Options.{past_options}
 use Rattle.inspect.specs.Tcp.{tcp_of, tcp_read_answer}
+use Rattle.inspect.specs.declared.check.Verdict.{Verdict}
 use Rattle.inspect.specs.declared.header.IpRead.{IpRead}
 use Rattle.inspect.proofs.Reading.{was_read, framed, frame_end}
-use Rattle.reporting.specs.Packets.{is_passed, passes, tcp_class, part_class, class_of}
+use Rattle.reporting.specs.Packets.{is_passed, passes, goes, sided, tcp_class, part_class, class_of}
+use Rattle.reporting.specs.declared.Segment.{Segment}
 use Rattle.reporting.specs.declared.Class.{Class}
-use Rattle.reporting.specs.declared.Class.TheVariants.{Failed, Other}
+use Rattle.reporting.specs.declared.Class.TheVariants.{Failed, Other, Own}
+
+-- ---- the sides
+
+pub of_client : (cl sv from to : SocketAddrV4) (s : Segment) (r : Bool) → r ≡ goes from to cl sv → r ≡ true → Own Client s ≡ sided cl sv from to s
+of_client cl sv from to s r e t = sym (pick_yes (Own Client s) (cond (goes from to sv cl) (Own Server s) Other) (sym e ∙ t))
+
+pub of_server : (cl sv from to : SocketAddrV4) (s : Segment) (r q : Bool) → r ≡ goes from to cl sv → r ≡ false → q ≡ goes from to sv cl → q ≡ true
+    → Own Server s ≡ sided cl sv from to s
+of_server cl sv from to s r q e t f u =
+    sym (pick_no (Own Client s) (cond (goes from to sv cl) (Own Server s) Other) (sym e ∙ t) ∙ pick_yes (Own Server s) Other (sym f ∙ u))
 
 -- ---- what passes
 

@@ -4,18 +4,16 @@
 ghost use Rattle.std.specs.Prelude.{◌≡◌, ◌<◌, ◌≤◌, true, length, IfSome, IfNone};
 ghost use Rattle.pkt.specs.Answers.{most_bytes};
 ghost use Rattle.tcp4.specs.Tcp4.{set_in};
-ghost use Rattle.inspect.specs.Answers.{checked_says};
 ghost use Rattle.reporting.specs.Sides.{ahead, arrival_of, behind_it, next_by, side_after, Few};
-ghost use Rattle.reporting.specs.Packets.{is_passed, passes, same_end, goes, sided, tcp_class, class_of};
+ghost use Rattle.reporting.specs.Packets.{passes, goes, sided, tcp_class, class_of};
 ghost use Rattle.reporting.specs.Report.{cut_at, first_wrong, report_after, HasRoom, report_of, most_packets, InOrder, Reports};
 
 use ezpkt::SocketAddrV4;
-use inspect::check::Checked;
-use inspect::header::{IpRead, Seen};
-use inspect::tcp::TcpSeen;
+use inspect::header::IpRead;
 use inspect::{check, header, tcp};
+use pkt::ipv4;
 use pkt::ipv4::{proto, tcp_hdr};
-use pkt::{ipv4, refusal};
+use pkt::refusal::{ListRefusal, Refusal};
 use tcp4::Side;
 
 // The most packets of a report.
@@ -45,14 +43,6 @@ pub struct Report {
     pub sv: Tally,
     pub failed: usize,
     pub others: usize,
-}
-
-// The report, or the refusal's number, with the index of the first end that it is for where it is for one.
-#[derive(Clone, Copy, Drop)]
-pub enum Reported {
-    Is(Report),
-    Refused(u8),
-    RefusedAt(u8, usize),
 }
 
 // A segment: its sequence number, its flags and its payload bytes.
@@ -148,27 +138,11 @@ fn side_after(t: Tally, s: Segment) -> Tally
     }
 }
 
-fn is_passed(checked: Checked) -> bool
-    ensures { result ≡ is_passed (checked_says checked) }
-{
-    match checked {
-        Checked::Good => true,
-        Checked::NoChecksum => true,
-        Checked::Refused(_) => false,
-    }
-}
-
-fn same_end(a: SocketAddrV4, b: SocketAddrV4) -> bool
-    ensures { result ≡ same_end a b }
-{
-    a.ip == b.ip && a.port == b.port
-}
-
 // Whether a segment that goes from one end to another goes from a to b.
 fn goes(from: SocketAddrV4, to: SocketAddrV4, a: SocketAddrV4, b: SocketAddrV4) -> bool
     ensures { result ≡ goes from to a b }
 {
-    same_end(from, a) && same_end(to, b)
+    from == a && to == b
 }
 
 // The class of a segment between two ends, for the flow between cl and sv.
@@ -216,7 +190,7 @@ fn passed_class(cl: SocketAddrV4, sv: SocketAddrV4, packet: &[u8]) -> Class
     requires { passes packet.now ≡ true }
     ensures { result ≡ class_of cl sv packet.now }
 {
-    let Seen::Packet(h) = header::frame(packet) else {
+    let Ok(h) = header::frame(packet) else {
         return Class::Failed;
     };
     if h.protocol != proto::TCP {
@@ -225,7 +199,7 @@ fn passed_class(cl: SocketAddrV4, sv: SocketAddrV4, packet: &[u8]) -> Class
     let start = h.start;
     let end = h.end;
     let part = &packet[start..end];
-    let TcpSeen::Header(t) = tcp::read(part) else {
+    let Ok(t) = tcp::read(part) else {
         return Class::Other;
     };
     tcp_class(cl, sv, h, t, part.len())
@@ -236,10 +210,10 @@ fn passed_class(cl: SocketAddrV4, sv: SocketAddrV4, packet: &[u8]) -> Class
 fn class_of(cl: SocketAddrV4, sv: SocketAddrV4, packet: &[u8]) -> Class
     ensures { result ≡ class_of cl sv packet.now }
 {
-    if !is_passed(check::check(packet)) {
-        return Class::Failed;
+    match check::check(packet) {
+        Ok(_) => passed_class(cl, sv, packet),
+        Err(_) => Class::Failed,
     }
-    passed_class(cl, sv, packet)
 }
 
 // A report after one packet more.
@@ -303,14 +277,19 @@ fn report_of(packets: &[u8], ends: &[usize], cl: SocketAddrV4, sv: SocketAddrV4)
 }
 
 // The report of the flow between cl and sv over packets that stand one behind the other and end so, each checked once; or a refusal.
-pub fn flow_report(packets: &[u8], ends: &[usize], cl: SocketAddrV4, sv: SocketAddrV4) -> Reported
+pub fn flow_report(
+    packets: &[u8],
+    ends: &[usize],
+    cl: SocketAddrV4,
+    sv: SocketAddrV4,
+) -> Result<Report, ListRefusal>
     ensures { Reports packets.now ends.now cl sv result }
 {
     if PACKETS < ends.len() {
-        return Reported::Refused(refusal::TOO_MANY);
+        return Err(ListRefusal::Whole(Refusal::TooMany));
     }
     if let Some(first) = first_wrong(ends, packets.len()) {
-        return Reported::RefusedAt(refusal::BROKEN, first);
+        return Err(ListRefusal::At(Refusal::Broken, first));
     }
-    Reported::Is(report_of(packets, ends, cl, sv))
+    Ok(report_of(packets, ends, cl, sv))
 }
