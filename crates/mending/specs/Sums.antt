@@ -7,10 +7,10 @@ use Rattle.pkt.specs.Rfc791.{ip_sum_at}
 use Rattle.pkt.specs.Rfc768.{pseudo, nonzero, udp_sum_at}
 use Rattle.pkt.specs.Rfc9293.{tcp_sum_at}
 use Rattle.pkt.specs.Rfc792.{echo_sum_at}
-use Rattle.inspect.specs.Answers.{Whole}
 use Rattle.inspect.specs.Header.{field_at, data_of}
 use Rattle.inspect.specs.Check.{examine_answer}
 use Rattle.inspect.specs.declared.header.IpRead.{IpRead}
+use Rattle.inspect.specs.declared.check.Whole.{Whole}
 use Rattle.inspect.specs.declared.check.Kind.{Kind}
 use Rattle.inspect.specs.declared.check.Kind.TheVariants.{Tcp, Udp, Bare, Icmp}
 use Rattle.mending.specs.declared.sums.SumField.{SumField}

@@ -1,8 +1,7 @@
 // The checksums of one packet, worked out anew.
 ghost use Rattle.std.specs.Prelude.{◌≡◌, ◌+◌, ◌%◌, ◌≤◌, length, option_to_list};
-ghost use Rattle.pkt.specs.Answers.{gives, summed, most_ip};
+ghost use Rattle.pkt.specs.Answers.{gives, most_ip};
 ghost use Rattle.pkt.specs.Rfc1071.{checksum};
-ghost use Rattle.pkt.specs.Rfc768.{nonzero};
 ghost use Rattle.pkt.specs.Rfc792.{echo_sum_at};
 ghost use Rattle.inspect.specs.Answers.{whole};
 ghost use Rattle.inspect.specs.Header.{field_at, frame_answer};
@@ -10,10 +9,10 @@ ghost use Rattle.inspect.specs.Check.{examine_answer};
 ghost use Rattle.mending.specs.Sums.{renewed, ip_sum, PartAsks, behind_pseudo, field_of, part_fields, sums_in, sums_says};
 
 use inspect::check;
-use inspect::check::{Examined, Kind};
+use inspect::check::{Kind, Whole};
 use inspect::header::IpRead;
 use pkt::ipv4;
-use pkt::ipv4::{Sum, icmp_echo_hdr, icmp_hdr, proto};
+use pkt::ipv4::{icmp_echo_hdr, icmp_hdr, proto};
 
 // A checksum's field of a packet: its place, the number that it holds, and the number that belongs there.
 #[derive(Clone, Copy, Drop)]
@@ -60,16 +59,6 @@ fn field(packet: &[u8], at: usize, new: u16) -> SumField
     }
 }
 
-// The number of a checksum that was not refused.
-fn number(sum: Sum) -> u16
-    ensures { result ≡ summed sum }
-{
-    match sum {
-        Sum::Is(csum) => csum,
-        Sum::Refused(_) => 0,
-    }
-}
-
 // A checksum without one of the words that it was taken of: what that word took from it is given back.
 fn without(csum: u16, word: u16) -> u16
     ensures { result ≡ (csum + word) % 65535 }
@@ -83,7 +72,7 @@ fn ip_sum(h: IpRead, packet: &[u8]) -> u16
     ensures { result ≡ ip_sum h packet.now }
 {
     let start = h.start;
-    let csum = number(ipv4::ip_csum(&packet[0..start]));
+    let csum = ipv4::ip_csum(&packet[0..start]).unwrap_or(0);
     without(csum, be16(packet, IP_SUM))
 }
 
@@ -92,15 +81,8 @@ fn behind_pseudo(h: IpRead, protocol: u8, at: usize, part: &[u8]) -> u16
     requires { PartAsks protocol at part.now }
     ensures { result ≡ behind_pseudo protocol at h part.now }
 {
-    let csum = number(ipv4::transport_csum(h.saddr, h.daddr, protocol, part));
+    let csum = ipv4::transport_csum(h.saddr, h.daddr, protocol, part).unwrap_or(0);
     without(csum, be16(part, at))
-}
-
-// A computed 0 is sent as all ones, since a field of 0 says that there is no checksum.
-fn nonzero_of(csum: u16) -> u16
-    ensures { result ≡ nonzero csum }
-{
-    if csum == 0 { 0xffff } else { csum }
 }
 
 // The number that belongs into the field of an ICMP message, which may be all zero.
@@ -116,7 +98,7 @@ fn icmp_sum(part: &[u8]) -> u16
         id: be16(part, 4),
         seq: be16(part, 6),
     };
-    number(ipv4::icmp_csum(h, echo, &part[8..]))
+    ipv4::icmp_csum(h, echo, &part[8..]).unwrap_or(0)
 }
 
 // The transport's field of a packet with this header and of this kind, where it is summed.
@@ -137,7 +119,7 @@ fn part_field(h: IpRead, kind: Kind, packet: &[u8]) -> Option<SumField>
         Kind::Udp => Some(field(
             packet,
             start + UDP_SUM,
-            nonzero_of(behind_pseudo(h, proto::UDP, UDP_SUM, part)),
+            ipv4::nonzero(behind_pseudo(h, proto::UDP, UDP_SUM, part)),
         )),
         Kind::Bare => None,
         Kind::Icmp => Some(field(packet, start + ICMP_SUM, icmp_sum(part))),
@@ -149,11 +131,9 @@ fn part_field(h: IpRead, kind: Kind, packet: &[u8]) -> Option<SumField>
 pub(crate) fn sums_in(packet: &[u8]) -> Option<Sums>
     ensures { sums_says result ≡ sums_in packet.now }
 {
-    let Examined::Whole(h, kind) = check::examine(packet) else {
-        return None;
-    };
+    let Whole { header, kind } = check::examine(packet).ok()?;
     Some(Sums {
-        ip: field(packet, IP_SUM, ip_sum(h, packet)),
-        part: part_field(h, kind, packet),
+        ip: field(packet, IP_SUM, ip_sum(header, packet)),
+        part: part_field(header, kind, packet),
     })
 }
