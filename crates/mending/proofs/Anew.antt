@@ -15,7 +15,8 @@ use Rattle.pkt.specs.Rfc768.{pseudo, nonzero, udp_sum_at}
 use Rattle.pkt.specs.Rfc792.{echo_sum_at}
 use Rattle.pkt.specs.Rfc9293.{tcp_sum_at}
 use Rattle.pkt.proofs.Checksum.{checksum_most, nonzero_range}
-use Rattle.inspect.specs.Answers.{whole, good}
+use Rattle.inspect.specs.Answers.{whole}
+use Rattle.inspect.specs.declared.check.Verdict.TheVariants.{Good}
 use Rattle.inspect.specs.Header.{field_at, data_of}
 use Rattle.inspect.specs.Check.{unless_bad, verdict_of, check_answer}
 use Rattle.inspect.specs.declared.header.IpRead.{IpRead}
@@ -73,7 +74,7 @@ shape_kept h d (bare e long len none) =
 shape_kept h d (icmp e long) = icmp e (rw (renewed_length 2 (checksum (renewed 2 0 d)) d) long)
 
 -- and makes its sum verify.
-good_sum : (l : List ℕ) → Verifies l → unless_bad (verifies l) ≡ gives good
+good_sum : (l : List ℕ) → Verifies l → unless_bad (verifies l) ≡ gives Good
 good_sum l e = ap unless_bad (eq-eqb (sum (words l)) 65535 e)
 
 part_verdict : {p : ℕ} {k : Kind} (h : IpRead) (d : List ℕ) → Bytes d → Shape p d k

@@ -8,23 +8,23 @@ use lib.ListN.{length, take, drop, length-drop}
 use lib.Seq.{sets, length-sets, sets-eq, length-take-le}
 use lib.Dec.{ltb}
 use borrow.Author.Tests.{ltb-false}
-use Rattle.pkt.specs.Answers.{ListAnswer, refused_whole, refused_at, gives_all, plainly}
+use Rattle.pkt.specs.Answers.{ListAnswer, refused_whole, refused_at, gives_all, list_says, plainly}
+use Rattle.pkt.specs.declared.refusal.ListRefusal.{ListRefusal}
+use Rattle.pkt.specs.declared.refusal.ListRefusal.TheVariants as refusal
+use Rattle.std.specs.Prelude.{Result, Ok, Err}
 use Rattle.pkt.specs.Fields.{Bytes}
 use Rattle.pkt.specs.Written.{written, over, leaves}
 use Rattle.pkt.proofs.Choice.{or_no}
 use Rattle.pkt.proofs.Written.{copy_written}
-use Rattle.pcap.specs.Read.{Recorded}
 use Rattle.inspect.proofs.Numbers.{take_bytes, drop_bytes}
-use Rattle.reading.specs.Reading.{Next, open_at, step_says, spot_at, packet_at, step_at, more_at, past_at}
-use Rattle.reading.specs.Ends.{records_answer, to_the_end}
-use Rattle.reading.proofs.Ending.{steps_end}
+use Rattle.reading.specs.Reading.{open_at, spot_at, packet_at, step_at, more_at, past_at}
+use Rattle.reading.specs.Ends.{records_answer}
 use Rattle.mending.specs.Sums.{renewed, sums_in}
 use Rattle.mending.specs.Packets.{AllWithin}
-use Rattle.mending.specs.Mend.{Listed, listed, sums_at, sums_from, sums_of, put_sums, mend, changes, Counts, counts, mended_says, room_answer, and_then_all, mend_answer, rows_after, Mends}
-use Rattle.mending.specs.Pass.{Passes, answer_after}
+use Rattle.mending.specs.Mend.{Listed, listed, sums_at, sums_from, sums_of, put_sums, mend, changes, counts, room_answer, and_then_all, mend_answer, rows_after, Mends}
+use Rattle.mending.specs.Pass.{Passes}
 use Rattle.mending.specs.declared.sums.SumField.{SumField}
-use Rattle.mending.specs.declared.Mended.{Mended}
-use Rattle.mending.specs.declared.Passed.{Passed}
+use Rattle.mending.specs.declared.Counts.{Counts}
 use Rattle.mending.proofs.Packets.{packets_mended}
 use Rattle.reading.proofs.Ending.{there_found, spot_within}
 use Rattle.mending.proofs.Passing.{sums_turn, sums_end}
@@ -34,10 +34,9 @@ use Rattle.mending.proofs.Renewed.{renewed_length, renewed_front}
 -- ---- an answer that is no refusal
 
 -- The records were not refused then: what follows them is the answer.
-pub records_then : (a : ListAnswer (List Recorded)) (b : ListAnswer Counts) (c : Counts) → and_then_all a b ≡ gives_all c
-    → ((d : ListAnswer Counts) → and_then_all a d ≡ d) × (b ≡ gives_all c)
-records_then (refused_whole n) b c e = let z : ◌≡◌ {A = ℕ} 0 1 = cc in absurd (omega arith)
-records_then (refused_at n k) b c e = let z : ◌≡◌ {A = ℕ} 0 1 = cc in absurd (omega arith)
+pub records_then : {A B : Type 0} (a : ListAnswer A) (b : ListAnswer B) (c : B) → and_then_all a b ≡ gives_all c → ((d : ListAnswer B) → and_then_all a d ≡ d) × (b ≡ gives_all c)
+records_then (refused_whole n) b c e = cc
+records_then (refused_at n k) b c e = cc
 records_then (gives_all rs) b c e = (λ d. refl, e)
 
 -- There is room for what it gives.
@@ -49,40 +48,51 @@ room_given n k room places c e = go (ltb room n || ltb places k) refl e
     go true h q = let z : ◌≡◌ {A = ℕ} 0 1 = cc in absurd (omega arith)
     go false h q = let t = or_no _ _ h in (cc, ltb-false room n t.0, ltb-false places k t.1)
 
--- so too where that is answered after a step
-pub room_after : (a : ListAnswer Next) (n k room places : ℕ) (b : ListAnswer Counts) (c : Counts) → b ≡ answer_after a n k room places → b ≡ gives_all c → n ≤ room
-room_after (gives_all x) n k room places b c e is = (room_given n k room places c (sym e ∙ is)).1
-room_after (refused_whole x) n k room places b c e is = let z : ◌≡◌ {A = ℕ} 0 1 = cc in absurd (omega arith)
-room_after (refused_at x i) n k room places b c e is = let z : ◌≡◌ {A = ℕ} 0 1 = cc in absurd (omega arith)
-
 -- ---- the first pass
 
 none_of : {A : Type 0} (l : List A) → length l ≡ 0 → l ≡ []
 none_of [] e = refl
 none_of (x ∷ l) e = absurd (omega arith)
 
-last_answer : (a : ListAnswer (List Recorded)) (n k room places : ℕ) → answer_after (to_the_end a) n k room places ≡ and_then_all a (room_answer n k room places)
-last_answer (gives_all rs) n k room places = refl
-last_answer (refused_whole x) n k room places = refl
-last_answer (refused_at x i) n k room places = refl
+-- where it is not refused, what follows is answered
+passed_on : {A B C : Type 0} (a : ListAnswer A) (x y : B) → and_then_all a (gives_all x) ≡ gives_all y → (d : ListAnswer C) → (and_then_all a d ≡ d) × (x ≡ y)
+passed_on (refused_whole n) x y e d = cc
+passed_on (refused_at n k) x y e d = cc
+passed_on (gives_all a) x y e d = (refl, cc)
 
-module _ (l : List ℕ) (found : Passed) (o₀ : List ℕ) (e₀ : List (List ℕ)) (first : Passes l [] [] found o₀ e₀) where
+-- and where it is, its refusal
+refused_then : {A B C : Type 0} (a : ListAnswer A) (b : B) (r : ListRefusal) → list_says (Err r) ≡ and_then_all a (gives_all b)
+    → (d : ListAnswer C) → list_says (Err r) ≡ and_then_all a d
+refused_then (gives_all x) b (refusal.Whole y) e d = cc
+refused_then (gives_all x) b (refusal.At y i) e d = cc
+refused_then (refused_whole n) b (refusal.Whole y) e d = ap refused_whole (cc)
+refused_then (refused_whole n) b (refusal.At y i) e d = cc
+refused_then (refused_at n k) b (refusal.Whole y) e d = cc
+refused_then (refused_at n k) b (refusal.At y i) e d = ap₂ refused_at (cc) (cc)
+
+module _ (l : List ℕ) (found : Result ℕ ListRefusal) (o₀ : List ℕ) (e₀ : List (List ℕ)) (first : Passes l [] [] found o₀ e₀) where
   -- It leaves the two parts of no length as they were,
   no_bytes : o₀ ≡ []
-  no_bytes = none_of o₀ (ap length first.puts.output ∙ put_length (sums_of l) [])
+  no_bytes = none_of o₀ (ap length first.output ∙ put_length (sums_of l) [])
 
   no_rows : e₀ ≡ []
-  no_rows = none_of e₀ (ap length first.puts.rows ∙ length-sets [] 0 (changes l))
+  no_rows = none_of e₀ (ap length first.rows ∙ length-sets [] 0 (changes l))
 
-  -- and what is answered after it is the call's answer.
-  pub answered : (r : Mended) (o : List ℕ) (e : List (List ℕ))
-      → mended_says r ≡ answer_after (step_says found.last) (length l) found.changes (length (o₀ ++ o)) (length (e₀ ++ e)) → mended_says r ≡ mend_answer l (length o) (length e)
-  answered r o e q =
-      let count : found.changes ≡ length (changes l) = first.puts.count ∙ omega arith in
+  -- and its refusal is the call's.
+  pub answered_refused : (r : ListRefusal) (o : List ℕ) (e : List (List ℕ)) → found ≡ Err r → list_says (Err r) ≡ mend_answer l (length o) (length e)
+  answered_refused r o e is = refused_then (records_answer l) _ r (sym (ap list_says is) ∙ first.says) _
+
+  -- Else what follows is the call's answer.
+  pub answered : (k : ℕ) (r : Result Counts ListRefusal) (o : List ℕ) (e : List (List ℕ)) → found ≡ Ok k
+      → list_says r ≡ room_answer (length l) k (length (o₀ ++ o)) (length (e₀ ++ e)) → list_says r ≡ mend_answer l (length o) (length e)
+  answered k r o e is q =
+      let all : and_then_all (records_answer l) (gives_all (length (changes l))) ≡ gives_all k = sym first.says ∙ ap list_says is in
+      let past = passed_on (records_answer l) _ k all _ in
+      let count : length (changes l) ≡ k = past.1 in
       q
-      ∙ ap₂ (λ (a : ListAnswer Next) (k : ℕ). answer_after a (length l) k (length (o₀ ++ o)) (length (e₀ ++ e))) (first.last ∙ steps_end l) count
-      ∙ ap₂ (λ (x : List ℕ) (y : List (List ℕ)). answer_after (to_the_end (records_answer l)) (length l) (length (changes l)) (length (x ++ o)) (length (y ++ e))) no_bytes no_rows
-      ∙ last_answer (records_answer l) (length l) (length (changes l)) (length o) (length e)
+      ∙ ap (λ (j : ℕ). room_answer (length l) j (length (o₀ ++ o)) (length (e₀ ++ e))) (sym count)
+      ∙ ap₂ (λ (x : List ℕ) (y : List (List ℕ)). room_answer (length l) (length (changes l)) (length (x ++ o)) (length (y ++ e))) no_bytes no_rows
+      ∙ sym past.0
 
 -- ---- the second pass
 
@@ -138,47 +148,42 @@ put_copy l o b =
 
 -- ---- the call's promise
 
-module _ (l : List ℕ) (found : Passed) (o₀ : List ℕ) (e₀ : List (List ℕ)) (first : Passes l [] [] found o₀ e₀) (o : List ℕ) (e : List (List ℕ)) (r : Mended)
-    (says : mended_says r ≡ mend_answer l (length o) (length e)) where
+module _ (l : List ℕ) (found : Result ℕ ListRefusal) (o₀ : List ℕ) (e₀ : List (List ℕ)) (first : Passes l [] [] found o₀ e₀) (o : List ℕ) (e : List (List ℕ)) where
   bytes_stay : o₀ ++ o ≡ o
   bytes_stay = ap (λ (x : List ℕ). x ++ o) (no_bytes l found o₀ e₀ first)
 
   rows_stay : e₀ ++ e ≡ e
   rows_stay = ap (λ (x : List (List ℕ)). x ++ e) (no_rows l found o₀ e₀ first)
 
+  stay : (r : ListRefusal) (a : ListAnswer Counts) → list_says (Err r) ≡ a → ◌≡◌ {A = List ℕ × List (List ℕ)} (leaves (plainly a) (mend l) o, rows_after a (changes l) e) (o, e)
+  stay r (refused_whole n) q = refl
+  stay r (refused_at n k) q = refl
+  stay (refusal.Whole x) (gives_all c) q = cc
+  stay (refusal.At x i) (gives_all c) q = cc
+
   -- A refusal leaves both as they were.
-  pub mends_refused : (a : ListAnswer Counts) → mended_says r ≡ a → ((x : List ℕ) → leaves (plainly a) x o ≡ o) → ((y : List (List ℕ)) → rows_after a y e ≡ e)
-      → Mends l o e r (o₀ ++ o) (e₀ ++ e)
-  mends_refused a is left rows_left =
-      let q : mend_answer l (length o) (length e) ≡ a = sym says ∙ is in
+  pub mends_refused : (r : ListRefusal) → list_says (Err r) ≡ mend_answer l (length o) (length e) → Mends l o e (Err r) (o₀ ++ o) (e₀ ++ e)
+  mends_refused r says =
       record {
         answer = says;
-        after = ap₂ (λ (x : List ℕ) (y : List (List ℕ)). (x, y)) (bytes_stay ∙ sym (left (mend l))) (rows_stay ∙ sym (rows_left (changes l)))
-            ∙ sym (ap (λ (b : ListAnswer Counts). (leaves (plainly b) (mend l) o, rows_after b (changes l) e)) q);
+        after = ap₂ (λ (x : List ℕ) (y : List (List ℕ)). (x, y)) bytes_stay rows_stay ∙ sym (stay r (mend_answer l (length o) (length e)) says);
       }
 
-  -- Else there is room for both,
-  pub room_for : (c : Counts) → mended_says r ≡ gives_all c → (length l ≤ length o) × (length (changes l) ≤ length e)
-  room_for c is =
-      let w = room_given (length l) (length (changes l)) (length o) (length e) c (records_then (records_answer l) _ c (sym says ∙ is)).1 in
-      (w.1, w.2)
-
-  -- and the second pass, over a copy, leaves what is owed.
-  pub mends_accepted : (c : Counts) (x o' : List ℕ) (e' : List (List ℕ)) (again : Passed) → mended_says r ≡ gives_all c → Bytes l
-      → x ≡ written (take (length (o₀ ++ o)) l) (o₀ ++ o) → Passes l x (e₀ ++ e) again o' e' → Mends l o e r o' e'
-  mends_accepted c x o' e' again is b copied second =
-      let q : mend_answer l (length o) (length e) ≡ gives_all c = sym says ∙ is in
-      let room = room_for c is in
-      let copy : x ≡ written l o = copied ∙ copy_written l (o₀ ++ o) (rw bytes_stay room.0) ∙ ap (written l) bytes_stay in
-      let bytes : o' ≡ written (mend l) o = second.puts.output ∙ ap (put_sums (sums_of l)) copy ∙ put_copy l o b in
+  -- Else there is room for both, and the second pass, over a copy, leaves what is owed.
+  pub mends_accepted : (c : Counts) (x o' : List ℕ) (e' : List (List ℕ)) (again : Result ℕ ListRefusal) → list_says (Ok c) ≡ mend_answer l (length o) (length e) → Bytes l
+      → x ≡ written (take (length (o₀ ++ o)) l) (o₀ ++ o) → Passes l x (e₀ ++ e) again o' e' → Mends l o e (Ok c) o' e'
+  mends_accepted c x o' e' again says b copied second =
+      let room = (room_given (length l) (length (changes l)) (length o) (length e) c (records_then (records_answer l) _ c (sym says)).1) in
+      let copy : x ≡ written l o = copied ∙ copy_written l (o₀ ++ o) (rw bytes_stay room.1) ∙ ap (written l) bytes_stay in
+      let bytes : o' ≡ written (mend l) o = second.output ∙ ap (put_sums (sums_of l)) copy ∙ put_copy l o b in
       let size : 0 + length (changes l) ≡ length (changes l) = omega arith in
       let rows : e' ≡ over (changes l) e =
-      second.puts.rows
+      second.rows
       ∙ ap (λ (y : List (List ℕ)). sets y 0 (changes l)) rows_stay
-      ∙ sets-eq (changes l) e 0 (omega (arith, room.1))
+      ∙ sets-eq (changes l) e 0 (omega (arith, room.2))
       ∙ ap (λ (n : ℕ). changes l ++ drop n e) size in
       record {
         answer = says;
         after = ap₂ (λ (y : List ℕ) (z : List (List ℕ)). (y, z)) bytes rows
-            ∙ sym (ap (λ (a : ListAnswer Counts). (leaves (plainly a) (mend l) o, rows_after a (changes l) e)) q);
+            ∙ ap (λ (a : ListAnswer Counts). (leaves (plainly a) (mend l) o, rows_after a (changes l) e)) says;
       }

@@ -12,7 +12,7 @@ use borrow.Author.Tests.{leb-true, leb-false, ltb-true, ltb-false, eqb-true, eqb
 use Rattle.pkt.specs.Answers.{Answer, refused, gives}
 use Rattle.pkt.specs.Rfc791.{ip_sum_at}
 use Rattle.pkt.specs.Fields.{Bytes, value}
-use Rattle.inspect.specs.Answers.{Whole}
+use Rattle.inspect.specs.declared.check.Whole.{Whole}
 use Rattle.inspect.specs.Header.{field_at}
 use Rattle.inspect.specs.Check.{examine_answer}
 use Rattle.inspect.specs.declared.header.IpRead.{IpRead}

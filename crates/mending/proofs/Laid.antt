@@ -1,4 +1,5 @@
 -- The bytes behind a capture's header are whole records, each a header of 16 bytes and its packet, and behind them what is no whole record.
+use Rattle.std.specs.Prelude.{Some}
 use mathlib.Core.Path.{◌≡◌, refl, sym, ap, ap₂, ◌∙◌, subst}
 use Prim.Native.Nat.{ℕ, zero, suc, ◌+◌, ◌≤◌}
 use native.Mathlib.Omega.{arith}
@@ -11,7 +12,7 @@ use borrow.Author.Tests.{le-ltb, ne_eqb}
 use Rattle.pkt.specs.Answers.{gives_all}
 use Rattle.pkt.proofs.Choice.{pick_yes, pick_no}
 use Rattle.pcap.specs.Read.{Recorded, le_value, number, record_at, record_size, is_broken}
-use Rattle.reading.specs.Reading.{header_size, found, spot_at, step_at, more_at, past_at}
+use Rattle.reading.specs.Reading.{header_size, spot_at, step_at, more_at, past_at}
 use Rattle.reading.proofs.Broken.{broken_short, broken_no}
 use Rattle.mending.specs.Sums.{sums_in}
 use Rattle.mending.specs.Mend.{Listed, listed, sums_at, sums_from}
@@ -91,7 +92,7 @@ module _ (h p r : List ℕ) (sixteen : length h ≡ 16) (names : number 4 8 h �
     laid_past : past_at (a ++ (h ++ (p ++ r))) at ≡ at + (16 + length p)
     laid_past = pick_yes _ _ laid_more ∙ ap (λ (t : List ℕ). at + record_size t) laid_here ∙ ap (λ (n : ℕ). at + n) laid_size
 
-    laid_step : step_at (a ++ (h ++ (p ++ r))) at k ≡ gives_all (found (spot_at (a ++ (h ++ (p ++ r))) at k))
+    laid_step : step_at (a ++ (h ++ (p ++ r))) at k ≡ gives_all (Some (spot_at (a ++ (h ++ (p ++ r))) at k))
     laid_step =
         pick_no _ _ (le-ltb at header_size behind)
         ∙ pick_no _ _ (ap (λ (t : List ℕ). eqb (length t) 0) laid_here ∙ laid_some)

@@ -6,7 +6,6 @@ pub mod Encoded
 pub mod Holding
 pub mod Kept
 pub mod Laid
-pub mod Only
 pub mod Packets
 pub mod Passing
 pub mod Placing

@@ -5,7 +5,7 @@ use mathlib.Core.List.{List, [], ◌∷◌}
 use lib.ListN.{length}
 use Rattle.pkt.specs.Answers.{Answer, refused, gives}
 use Rattle.pkt.specs.Fields.{Bytes}
-use Rattle.inspect.specs.Answers.{Whole}
+use Rattle.inspect.specs.declared.check.Whole.{Whole}
 use Rattle.inspect.specs.Check.{check_answer, examine_answer}
 use Rattle.mending.specs.Packets.{verdict_for, AllWithin, AllRight, PacketsMended}
 use Rattle.mending.specs.Sums.{renewed, fields_of, sums_in, put_fields, mend_packet}

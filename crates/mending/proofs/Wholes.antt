@@ -7,7 +7,10 @@ use mathlib.Core.List.{List}
 use lib.ListN.{length, take, length-take, length-drop}
 use lib.Dec.{ltb, eqb}
 use borrow.Author.Tests.{ltb-false, le-ltb, eqb-true, eqb-false, eq-eqb, ne_eqb, not-false}
-use Rattle.pkt.specs.Answers.{Answer, refused, gives, mapped, and_then, most_ip}
+use Rattle.pkt.specs.Answers.{Answer, refused, gives, says, mapped, and_then, most_ip}
+use Rattle.pkt.specs.declared.refusal.Refusal.{Refusal}
+use Rattle.std.specs.Prelude.{Result, Ok, Err, Some}
+use Rattle.std.specs.Result.{result_ok}
 use Rattle.pkt.specs.Fields.{Bytes}
 use Rattle.pkt.specs.Rfc1071.{verifies}
 use Rattle.pkt.specs.Rfc768.{udp_sum_at}
@@ -15,7 +18,8 @@ use Rattle.pkt.specs.Rfc792.{echo_sum_at}
 use Rattle.pkt.specs.Rfc9293.{tcp_sum_at}
 use Rattle.pkt.proofs.Choice.{or_no, pick_yes, pick_no}
 use Rattle.pkt.proofs.Deciding.{past}
-use Rattle.inspect.specs.Answers.{Whole, whole}
+use Rattle.inspect.specs.Answers.{whole}
+use Rattle.inspect.specs.declared.check.Whole.{Whole}
 use Rattle.inspect.specs.Header.{field_at, frame_answer, summed, unreserved, read_answer, data_of}
 use Rattle.inspect.specs.Check.{is_piece, is_other, tcp_cut, udp_cut, is_cut, kind_of, whole_answer, verdict_of, part_answer, check_answer, examine_answer}
 use Rattle.inspect.specs.declared.header.IpRead.{IpRead}
@@ -131,6 +135,10 @@ known l h k e = go (and_then (frame_answer l) unreserved) refl e
         let seen = was_seen (frame_answer l) h (s ∙ ap gives w.0) in
         let part = whole_shape h (data_of h l) k (ap (λ (x : IpRead). whole_answer x (data_of x l)) (sym w.0) ∙ w.1) in
         record { frame = seen.0; clear = seen.1; piece = part.0; shape = part.1 }
+
+pub known_ok : (l : List ℕ) (r : Result Whole Refusal) (w : Whole) → says r ≡ examine_answer l → result_ok r ≡ Some w → Known l w.header w.kind
+known_ok l (Ok v) w e o = known l w.header w.kind (sym e ∙ ap gives (cc))
+known_ok l (Err x) w e o = cc
 
 module _ (l : List ℕ) (h : IpRead) (k : Kind) (q : Known l h k) where
   pub examined : examine_answer l ≡ gives (whole h k)

@@ -1,18 +1,18 @@
 -- What mending owes a capture: document 02, T-08, "All other bytes stay" and "Mending twice lists nothing the second time".
-use Rattle.std.specs.Prelude.{ℕ, ◌+◌, ◌<◌, ◌≤◌, ◌≡◌, true, List, [], ◌∷◌, map, length, get_or, take, drop}
+use Rattle.std.specs.Prelude.{ℕ, ◌+◌, ◌<◌, ◌≤◌, ◌≡◌, true, List, [], ◌∷◌, map, length, get_or, take, drop, Result, Ok}
 use Rattle.pkt.specs.Answers.{gives}
 use Rattle.pkt.specs.Fields.{Bytes}
+use Rattle.pkt.specs.declared.refusal.ListRefusal.{ListRefusal}
 use Rattle.pcap.specs.Pcap.{file_header}
 use Rattle.pcap.specs.Read.{Recorded, Records, whole, broken_after, records_of}
-use Rattle.inspect.specs.Answers.{Whole}
+use Rattle.inspect.specs.declared.check.Whole.{Whole}
 use Rattle.inspect.specs.Header.{field_at}
 use Rattle.inspect.specs.Check.{check_answer, examine_answer}
 use Rattle.reading.specs.Reading.{starts_with, header_size}
 use Rattle.mending.specs.Sums.{mend_packet}
 use Rattle.mending.specs.Packets.{verdict_for}
-use Rattle.mending.specs.Mend.{Listed, sums_of, mend, changes, Mends}
-use Rattle.mending.specs.declared.Mended.{Mended}
-use Rattle.mending.specs.declared.Mended.TheVariants.{Written}
+use Rattle.mending.specs.Mend.{Listed, sums_of, mend, changes, counts, Mends}
+use Rattle.mending.specs.declared.Counts.{Counts}
 
 -- the place i is one of the two of a field
 abbrev pub Covers : Listed → ℕ → Type 0
@@ -67,6 +67,6 @@ pub record CapturesMended : Type 0 where
 -- The same of two calls, the second of what the first wrote: it lists nothing, and writes the same bytes again.
 abbrev pub MendsTwice : Type 0
 MendsTwice =
-    (l o o' o₂ o₂' : List ℕ) (e e' e₂ e₂' : List (List ℕ)) (n k : ℕ) (r : Mended) → Bytes l → Mends l o e (Written n k) o' e'
+    (l o o' o₂ o₂' : List ℕ) (e e' e₂ e₂' : List (List ℕ)) (n k : ℕ) (r : Result Counts ListRefusal) → Bytes l → Mends l o e (Ok (counts n k)) o' e'
     → Mends (take n o') o₂ e₂ r o₂' e₂' → n ≤ length o₂
-    → (r ≡ Written n 0) × (take n o₂' ≡ take n o') × (e₂' ≡ e₂)
+    → (r ≡ Ok (counts n 0)) × (take n o₂' ≡ take n o') × (e₂' ≡ e₂)

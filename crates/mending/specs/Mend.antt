@@ -1,13 +1,13 @@
 -- A capture, mended: document 02, T-08.
-use Rattle.std.specs.Prelude.{ℕ, zero, suc, ◌+◌, ◌||◌, cond, List, [], ◌∷◌, ◌++◌, length, ltb, eqb}
-use Rattle.pkt.specs.Answers.{ListAnswer, refused_whole, refused_at, gives_all, plainly}
+use Rattle.std.specs.Prelude.{ℕ, zero, suc, ◌+◌, ◌||◌, cond, List, [], ◌∷◌, ◌++◌, length, ltb, eqb, Result, Some, None}
+use Rattle.pkt.specs.Answers.{ListAnswer, refused_whole, refused_at, gives_all, list_says, plainly}
+use Rattle.pkt.specs.declared.refusal.ListRefusal.{ListRefusal}
 use Rattle.pkt.specs.Written.{over, leaves, Promise}
-use Rattle.reading.specs.Reading.{Next, ended, found, open_at, packet_at, step_at, more_at, past_at}
+use Rattle.reading.specs.Reading.{Next, open_at, packet_at, step_at, more_at, past_at}
 use Rattle.reading.specs.Ends.{records_answer}
 use Rattle.mending.specs.Sums.{renewed, sums_in}
 use Rattle.mending.specs.declared.sums.SumField.{SumField}
-use Rattle.mending.specs.declared.Mended.{Mended}
-use Rattle.mending.specs.declared.Mended.TheVariants as mended
+use Rattle.mending.specs.declared.Counts.{Counts}
 
 -- a checksum's field of a capture: its record's number, which of the record's it is, its place in the capture, and both numbers
 pub record Listed : Type 0 where
@@ -24,8 +24,8 @@ listed k which start (f ∷ fs) = record { number = k; which = which; at = start
 
 -- the fields that are worked out anew in the record that a step found: "record number (from 0), which field (IPv4 first)"
 unfoldable pub sums_at : List ℕ → ListAnswer Next → List Listed
-sums_at l (gives_all (found s)) = listed s.number 0 s.start (sums_in (packet_at l s))
-sums_at l (gives_all ended) = []
+sums_at l (gives_all (Some s)) = listed s.number 0 s.start (sums_in (packet_at l s))
+sums_at l (gives_all None) = []
 sums_at l (refused_whole n) = []
 sums_at l (refused_at n k) = []
 
@@ -60,17 +60,8 @@ abbrev pub changes : List ℕ → List (List ℕ)
 changes l = changes_of (sums_of l)
 
 -- what an accepted call gives: how many bytes, and how many changes
-pub record Counts : Type 0 where
-  pub bytes : ℕ
-  pub changed : ℕ
-
 abbrev pub counts : ℕ → ℕ → Counts
 counts n k = record { bytes = n; changed = k }
-
-abbrev pub mended_says : Mended → ListAnswer Counts
-mended_says (mended.Written n k) = gives_all (counts n k)
-mended_says (mended.Refused n) = refused_whole n
-mended_says (mended.RefusedAt n k) = refused_at n k
 
 -- "then 3 if the second buffer or the list of changes is too short": for n bytes and k changes
 abbrev pub room_answer : ℕ → ℕ → ℕ → ℕ → ListAnswer Counts
@@ -94,7 +85,7 @@ rows_after (refused_at n k) rs e = e
 
 -- The call's whole promise: the one answer; the mended capture at the start of the second buffer o, and the changes at the start of the list e;
 -- "nothing is written then" on a refusal.
-abbrev pub Mends : List ℕ → List ℕ → List (List ℕ) → Mended → List ℕ → List (List ℕ) → Type 0
+abbrev pub Mends : List ℕ → List ℕ → List (List ℕ) → Result Counts ListRefusal → List ℕ → List (List ℕ) → Type 0
 Mends l o e r o' e' =
     let a : ListAnswer Counts = mend_answer l (length o) (length e) in
-    Promise {B = List ℕ × List (List ℕ)} mended_says a (leaves (plainly a) (mend l) o, rows_after a (changes l) e) r (o', e')
+    Promise {B = List ℕ × List (List ℕ)} list_says a (leaves (plainly a) (mend l) o, rows_after a (changes l) e) r (o', e')

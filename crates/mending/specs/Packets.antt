@@ -2,8 +2,10 @@
 use Rattle.std.specs.Prelude.{ℕ, ◌+◌, ◌<◌, ◌≤◌, ◌≡◌, List, [], ◌∷◌, length}
 use Rattle.pkt.specs.Answers.{refused, gives}
 use Rattle.pkt.specs.Fields.{Bytes}
-use Rattle.inspect.specs.Answers.{Whole, Verdict, good, no_checksum}
 use Rattle.inspect.specs.Check.{check_answer, examine_answer}
+use Rattle.inspect.specs.declared.check.Whole.{Whole}
+use Rattle.inspect.specs.declared.check.Verdict.{Verdict}
+use Rattle.inspect.specs.declared.check.Verdict.TheVariants.{Good, NoChecksum}
 use Rattle.inspect.specs.declared.check.Kind.{Kind}
 use Rattle.inspect.specs.declared.check.Kind.TheVariants.{Tcp, Udp, Bare, Icmp}
 use Rattle.mending.specs.Sums.{sums_in, mend_packet}
@@ -11,10 +13,10 @@ use Rattle.mending.specs.declared.sums.SumField.{SumField}
 
 -- what the check is to say of each kind
 abbrev pub verdict_for : Kind → Verdict
-verdict_for Tcp = good
-verdict_for Udp = good
-verdict_for Bare = no_checksum
-verdict_for Icmp = good
+verdict_for Tcp = Good
+verdict_for Udp = Good
+verdict_for Bare = NoChecksum
+verdict_for Icmp = Good
 
 -- each of these fields stands within the packet p
 unfoldable pub AllWithin : List SumField → List ℕ → Type 0

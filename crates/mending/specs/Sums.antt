@@ -1,21 +1,20 @@
 -- The checksums of a packet, worked out anew: document 02, T-08, "Each record that the check would call good, with or without checksum, if 7 and
 -- 15 were never given gets its checksums worked out anew".
-use Rattle.std.specs.Prelude.{ℕ, ◌+◌, ◌/◌, ◌%◌, ◌≤◌, ◌<◌, ◌≡◌, List, [], ◌∷◌, ◌++◌, length, take, set}
+use Rattle.std.specs.Prelude.{ℕ, ◌+◌, ◌/◌, ◌%◌, ◌≤◌, ◌<◌, ◌≡◌, List, [], ◌∷◌, ◌++◌, length, take, set, Option, Some, None, option_to_list}
 use Rattle.pkt.specs.Answers.{Answer, refused, gives, most_ip}
 use Rattle.pkt.specs.Rfc1071.{checksum}
 use Rattle.pkt.specs.Rfc791.{ip_sum_at}
 use Rattle.pkt.specs.Rfc768.{pseudo, nonzero, udp_sum_at}
 use Rattle.pkt.specs.Rfc9293.{tcp_sum_at}
 use Rattle.pkt.specs.Rfc792.{echo_sum_at}
-use Rattle.inspect.specs.Answers.{Whole}
 use Rattle.inspect.specs.Header.{field_at, data_of}
 use Rattle.inspect.specs.Check.{examine_answer}
 use Rattle.inspect.specs.declared.header.IpRead.{IpRead}
+use Rattle.inspect.specs.declared.check.Whole.{Whole}
 use Rattle.inspect.specs.declared.check.Kind.{Kind}
 use Rattle.inspect.specs.declared.check.Kind.TheVariants.{Tcp, Udp, Bare, Icmp}
 use Rattle.mending.specs.declared.sums.SumField.{SumField}
 use Rattle.mending.specs.declared.sums.Sums.{Sums}
-use Rattle.mending.specs.declared.sums.Sums.TheVariants as sums
 
 -- l with the number x in its two bytes from place i on, the first the higher
 unfoldable pub renewed : ℕ → ℕ → List ℕ → List ℕ
@@ -56,10 +55,10 @@ fields_of (gives w) p = field_of p ip_sum_at (ip_sum w.header p) ∷ part_fields
 unfoldable pub sums_in : List ℕ → List SumField
 sums_in p = fields_of (examine_answer p) p
 
-abbrev pub sums_says : Sums → List SumField
-sums_says sums.Neither = []
-sums_says (sums.Ip f) = f ∷ []
-sums_says (sums.Both f g) = f ∷ g ∷ []
+-- the fields that a call found, IPv4 first
+abbrev pub sums_says : Option Sums → List SumField
+sums_says None = []
+sums_says (Some s) = s.ip ∷ option_to_list s.part
 
 -- a packet p with each of these fields holding the number that belongs there
 unfoldable pub put_fields : List SumField → List ℕ → List ℕ

@@ -1,19 +1,18 @@
 // The checksums of one packet, worked out anew.
-ghost use Rattle.std.specs.Prelude.{◌≡◌, ◌+◌, ◌%◌, ◌≤◌, length};
-ghost use Rattle.pkt.specs.Answers.{gives, summed, most_ip};
+ghost use Rattle.std.specs.Prelude.{◌≡◌, ◌+◌, ◌%◌, ◌≤◌, length, option_to_list};
+ghost use Rattle.pkt.specs.Answers.{gives, most_ip};
 ghost use Rattle.pkt.specs.Rfc1071.{checksum};
-ghost use Rattle.pkt.specs.Rfc768.{nonzero};
 ghost use Rattle.pkt.specs.Rfc792.{echo_sum_at};
 ghost use Rattle.inspect.specs.Answers.{whole};
 ghost use Rattle.inspect.specs.Header.{field_at, frame_answer};
 ghost use Rattle.inspect.specs.Check.{examine_answer};
-ghost use Rattle.mending.specs.Sums.{renewed, ip_sum, PartAsks, behind_pseudo, field_of, fields_of, sums_in, sums_says};
+ghost use Rattle.mending.specs.Sums.{renewed, ip_sum, PartAsks, behind_pseudo, field_of, part_fields, sums_in, sums_says};
 
 use inspect::check;
-use inspect::check::{Examined, Kind};
+use inspect::check::{Kind, Whole};
 use inspect::header::IpRead;
 use pkt::ipv4;
-use pkt::ipv4::{Sum, icmp_echo_hdr, icmp_hdr, proto};
+use pkt::ipv4::{icmp_echo_hdr, icmp_hdr, proto};
 
 // A checksum's field of a packet: its place, the number that it holds, and the number that belongs there.
 #[derive(Clone, Copy, Drop)]
@@ -23,20 +22,20 @@ pub struct SumField {
     pub new: u16,
 }
 
-// The fields of a packet that are worked out anew: neither, the header's, or both the header's and the transport's.
+// The fields of a packet that are worked out anew: the header's, and the transport's where it has one that is summed.
 #[derive(Clone, Copy, Drop)]
-pub enum Sums {
-    Neither,
-    Ip(SumField),
-    Both(SumField, SumField),
+pub struct Sums {
+    pub ip: SumField,
+    pub part: Option<SumField>,
 }
 
 // The number in two bytes.
+#[tactic(auto, using(inspect::proofs::Numbers::field_two))]
 fn be16(s: &[u8], at: usize) -> u16
     requires { at + 2 ≤ length s.now }
     ensures { result ≡ field_at s.now at 2 }
 {
-    (s[at] as u16) * 256 + s[at + 1] as u16
+    u16::from_be_bytes([s[at], s[at + 1]])
 }
 
 // Where the checksum stands in a header.
@@ -60,16 +59,6 @@ fn field(packet: &[u8], at: usize, new: u16) -> SumField
     }
 }
 
-// The number of a checksum that was not refused.
-fn number(sum: Sum) -> u16
-    ensures { result ≡ summed sum }
-{
-    match sum {
-        Sum::Is(csum) => csum,
-        Sum::Refused(_) => 0,
-    }
-}
-
 // A checksum without one of the words that it was taken of: what that word took from it is given back.
 fn without(csum: u16, word: u16) -> u16
     ensures { result ≡ (csum + word) % 65535 }
@@ -83,7 +72,7 @@ fn ip_sum(h: IpRead, packet: &[u8]) -> u16
     ensures { result ≡ ip_sum h packet.now }
 {
     let start = h.start;
-    let csum = number(ipv4::ip_csum(&packet[0..start]));
+    let csum = ipv4::ip_csum(&packet[0..start]).unwrap_or(0);
     without(csum, be16(packet, IP_SUM))
 }
 
@@ -92,15 +81,8 @@ fn behind_pseudo(h: IpRead, protocol: u8, at: usize, part: &[u8]) -> u16
     requires { PartAsks protocol at part.now }
     ensures { result ≡ behind_pseudo protocol at h part.now }
 {
-    let csum = number(ipv4::transport_csum(h.saddr, h.daddr, protocol, part));
+    let csum = ipv4::transport_csum(h.saddr, h.daddr, protocol, part).unwrap_or(0);
     without(csum, be16(part, at))
-}
-
-// A computed 0 is sent as all ones, since a field of 0 says that there is no checksum.
-fn nonzero_of(csum: u16) -> u16
-    ensures { result ≡ nonzero csum }
-{
-    if csum == 0 { 0xffff } else { csum }
 }
 
 // The number that belongs into the field of an ICMP message, which may be all zero.
@@ -116,46 +98,42 @@ fn icmp_sum(part: &[u8]) -> u16
         id: be16(part, 4),
         seq: be16(part, 6),
     };
-    number(ipv4::icmp_csum(h, echo, &part[8..]))
+    ipv4::icmp_csum(h, echo, &part[8..]).unwrap_or(0)
 }
 
-// The fields of a packet with this header and of this kind.
-fn of_whole(h: IpRead, kind: Kind, packet: &[u8]) -> Sums
+// The transport's field of a packet with this header and of this kind, where it is summed.
+#[tactic(auto, unfolding(crate::specs::Sums::part_fields))]
+fn part_field(h: IpRead, kind: Kind, packet: &[u8]) -> Option<SumField>
     requires { examine_answer packet.now ≡ gives (whole h kind) }
-    ensures { sums_says result ≡ fields_of (gives (whole h kind)) packet.now }
+    ensures { option_to_list result ≡ part_fields kind h packet.now }
 {
     let start = h.start;
     let end = h.end;
-    let ip = field(packet, IP_SUM, ip_sum(h, packet));
     let part = &packet[start..end];
     match kind {
-        Kind::Tcp => Sums::Both(
-            ip,
-            field(
-                packet,
-                start + TCP_SUM,
-                behind_pseudo(h, proto::TCP, TCP_SUM, part),
-            ),
-        ),
-        Kind::Udp => Sums::Both(
-            ip,
-            field(
-                packet,
-                start + UDP_SUM,
-                nonzero_of(behind_pseudo(h, proto::UDP, UDP_SUM, part)),
-            ),
-        ),
-        Kind::Bare => Sums::Ip(ip),
-        Kind::Icmp => Sums::Both(ip, field(packet, start + ICMP_SUM, icmp_sum(part))),
+        Kind::Tcp => Some(field(
+            packet,
+            start + TCP_SUM,
+            behind_pseudo(h, proto::TCP, TCP_SUM, part),
+        )),
+        Kind::Udp => Some(field(
+            packet,
+            start + UDP_SUM,
+            ipv4::nonzero(behind_pseudo(h, proto::UDP, UDP_SUM, part)),
+        )),
+        Kind::Bare => None,
+        Kind::Icmp => Some(field(packet, start + ICMP_SUM, icmp_sum(part))),
     }
 }
 
-// The fields of a packet that are worked out anew.
-pub(crate) fn sums_in(packet: &[u8]) -> Sums
+// The fields of a packet that are worked out anew, if it is one that the check up to its sums would not refuse.
+#[tactic(auto, unfolding(crate::specs::Sums::sums_in))]
+pub(crate) fn sums_in(packet: &[u8]) -> Option<Sums>
     ensures { sums_says result ≡ sums_in packet.now }
 {
-    match check::examine(packet) {
-        Examined::Refused(_) => Sums::Neither,
-        Examined::Whole(h, kind) => of_whole(h, kind, packet),
-    }
+    let Whole { header, kind } = check::examine(packet).ok()?;
+    Some(Sums {
+        ip: field(packet, IP_SUM, ip_sum(header, packet)),
+        part: part_field(header, kind, packet),
+    })
 }

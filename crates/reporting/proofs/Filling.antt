@@ -1,9 +1,8 @@
 -- No number of a report is above that of the packets, so that there is room for the next.
-use Rattle.std.proofs.Common.{◌≡◌, ℕ, suc, ◌+◌, ◌≤◌, Bool, true, false, cond, eqb, List, length, sym, refl, ap, ◌∙◌, subst, arith}
+use Rattle.std.proofs.Common.{◌≡◌, ℕ, suc, ◌≤◌, Bool, true, false, cond, eqb, List, length, refl, arith}
 use Rattle.pkt.specs.Answers.{most_bytes}
 use Rattle.pkt.specs.Fields.{Bytes}
 use Rattle.ezpkt.specs.declared.SocketAddrV4.{SocketAddrV4}
-use Rattle.tcp4.specs.declared.Side.{Side}
 use Rattle.tcp4.specs.declared.Side.TheVariants.{Client, Server}
 use Rattle.inspect.specs.Header.{header_of, data_of}
 use Rattle.inspect.specs.Tcp.{tcp_of}
@@ -18,46 +17,6 @@ use Rattle.reporting.specs.declared.Segment.{Segment}
 use Rattle.reporting.specs.declared.Class.{Class}
 use Rattle.reporting.specs.declared.Class.TheVariants.{Failed, Other, Own}
 use Rattle.reporting.specs.declared.Report.{Report}
-
--- ---- a report after a packet of each class, and its room
-
-pub after_failed : (r : Report) (k : Class) → k ≡ Failed
-    → ◌≡◌ {A = Report} (record { cl = r.cl; sv = r.sv; failed = r.failed + 1; others = r.others }) (report_after r k)
-unfolding report_after
-after_failed r k e = sym (ap (report_after r) e)
-
-pub after_other : (r : Report) (k : Class) → k ≡ Other
-    → ◌≡◌ {A = Report} (record { cl = r.cl; sv = r.sv; failed = r.failed; others = r.others + 1 }) (report_after r k)
-unfolding report_after
-after_other r k e = sym (ap (report_after r) e)
-
-pub after_client : (r : Report) (k : Class) (w : Side) (s : Segment) (t : Tally) → k ≡ Own w s → w ≡ Client → t ≡ side_after r.cl s
-    → ◌≡◌ {A = Report} (record { cl = t; sv = r.sv; failed = r.failed; others = r.others }) (report_after r k)
-unfolding report_after
-after_client r k w s t e f g =
-    ap (λ (x : Tally). record { cl = x; sv = r.sv; failed = r.failed; others = r.others }) g ∙ sym (ap (report_after r) (e ∙ ap (λ (v : Side). Own v s) f))
-
-pub after_server : (r : Report) (k : Class) (w : Side) (s : Segment) (t : Tally) → k ≡ Own w s → w ≡ Server → t ≡ side_after r.sv s
-    → ◌≡◌ {A = Report} (record { cl = r.cl; sv = t; failed = r.failed; others = r.others }) (report_after r k)
-unfolding report_after
-after_server r k w s t e f g =
-    ap (λ (x : Tally). record { cl = r.cl; sv = x; failed = r.failed; others = r.others }) g ∙ sym (ap (report_after r) (e ∙ ap (λ (v : Side). Own v s) f))
-
-pub room_failed : (r : Report) (k : Class) → HasRoom r k → k ≡ Failed → r.failed ≤ most_packets
-unfolding HasRoom
-room_failed r k h e = subst (HasRoom r) e h
-
-pub room_other : (r : Report) (k : Class) → HasRoom r k → k ≡ Other → r.others ≤ most_packets
-unfolding HasRoom
-room_other r k h e = subst (HasRoom r) e h
-
-pub room_client : (r : Report) (k : Class) (w : Side) (s : Segment) → HasRoom r k → k ≡ Own w s → w ≡ Client → (s.size ≤ most_bytes) × Few most_packets r.cl
-unfolding HasRoom
-room_client r k w s h e f = subst (HasRoom r) (e ∙ ap (λ (v : Side). Own v s) f) h
-
-pub room_server : (r : Report) (k : Class) (w : Side) (s : Segment) → HasRoom r k → k ≡ Own w s → w ≡ Server → (s.size ≤ most_bytes) × Few most_packets r.sv
-unfolding HasRoom
-room_server r k w s h e f = subst (HasRoom r) (e ∙ ap (λ (v : Side). Own v s) f) h
 
 -- ---- the numbers
 

@@ -5,4 +5,3 @@ pub mod Filling
 pub mod Turning
 pub mod Totals
 pub mod Mixing
-pub mod Only

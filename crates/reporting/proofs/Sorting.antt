@@ -1,5 +1,5 @@
 -- What a packet that passes the check has, and the class that tests lead to.
-use Rattle.std.proofs.Common.{◌≡◌, ℕ, ◌≤◌, Bool, true, false, cond, ◌&&◌, eqb, List, length, sym, refl, ap, ◌∙◌, subst, ap₂, true≢false, arith, length-drop, length-take, ltb-false, eq-eqb, ne_eqb}
+use Rattle.std.proofs.Common.{◌≡◌, ℕ, ◌≤◌, Bool, true, false, cond, List, length, sym, refl, ap, ◌∙◌, subst, ap₂, true≢false, arith, length-drop, length-take, ltb-false, eq-eqb, ne_eqb}
 use Rattle.pkt.specs.Answers.{Answer, refused, gives, and_then, most_bytes}
 use Rattle.pkt.specs.Fields.{Bytes}
 use Rattle.pkt.proofs.Choice.{pick_yes, pick_no, or_no}
@@ -7,31 +7,19 @@ use Rattle.pkt.proofs.Deciding.{past}
 use Rattle.pkt.specs.declared.ipv4.tcp_hdr.{tcp_hdr}
 use Rattle.ezpkt.specs.declared.SocketAddrV4.{SocketAddrV4}
 use Rattle.tcp4.specs.declared.Side.TheVariants.{Client, Server}
-use Rattle.inspect.specs.Answers.{Verdict}
 use Rattle.inspect.specs.Header.{header_of, data_of, frame_answer, read_answer}
 use Rattle.inspect.specs.Check.{tcp_cut, is_cut, is_piece, is_other, whole_answer, part_answer, check_answer, verdict_of}
 use Rattle.inspect.specs.Options.{past_options}
 use Rattle.inspect.specs.Tcp.{tcp_of, tcp_read_answer}
+use Rattle.inspect.specs.declared.check.Verdict.{Verdict}
 use Rattle.inspect.specs.declared.header.IpRead.{IpRead}
 use Rattle.inspect.proofs.Reading.{was_read, framed, frame_end}
-use Rattle.reporting.specs.Packets.{is_passed, passes, same_end, goes, sided, tcp_class, part_class, class_of}
+use Rattle.reporting.specs.Packets.{is_passed, passes, goes, sided, tcp_class, part_class, class_of}
 use Rattle.reporting.specs.declared.Segment.{Segment}
 use Rattle.reporting.specs.declared.Class.{Class}
 use Rattle.reporting.specs.declared.Class.TheVariants.{Failed, Other, Own}
 
 -- ---- the sides
-
-pub by_port : (a b : SocketAddrV4) → a.ip ≡ b.ip → eqb a.port b.port ≡ same_end a b
-by_port a b e = sym (ap (λ (x : Bool). x && eqb a.port b.port) (eq-eqb a.ip b.ip e))
-
-pub by_address : (a b : SocketAddrV4) → (a.ip ≡ b.ip → ⊥) → eqb a.ip b.ip ≡ same_end a b
-by_address a b h = ne_eqb a.ip b.ip h ∙ sym (ap (λ (x : Bool). x && eqb a.port b.port) (ne_eqb a.ip b.ip h))
-
-pub from_here : (from to a b : SocketAddrV4) (r q : Bool) → r ≡ same_end from a → q ≡ same_end to b → r ≡ true → q ≡ goes from to a b
-from_here from to a b r q e f t = f ∙ sym (ap (λ (x : Bool). x && same_end to b) (sym e ∙ t))
-
-pub from_elsewhere : (from to a b : SocketAddrV4) (r : Bool) → r ≡ same_end from a → r ≡ false → r ≡ goes from to a b
-from_elsewhere from to a b r e t = t ∙ sym (ap (λ (x : Bool). x && same_end to b) (sym e ∙ t))
 
 pub of_client : (cl sv from to : SocketAddrV4) (s : Segment) (r : Bool) → r ≡ goes from to cl sv → r ≡ true → Own Client s ≡ sided cl sv from to s
 of_client cl sv from to s r e t = sym (pick_yes (Own Client s) (cond (goes from to sv cl) (Own Server s) Other) (sym e ∙ t))
@@ -40,11 +28,6 @@ pub of_server : (cl sv from to : SocketAddrV4) (s : Segment) (r q : Bool) → r 
     → Own Server s ≡ sided cl sv from to s
 of_server cl sv from to s r q e t f u =
     sym (pick_no (Own Client s) (cond (goes from to sv cl) (Own Server s) Other) (sym e ∙ t) ∙ pick_yes (Own Server s) Other (sym f ∙ u))
-
-pub of_neither : (cl sv from to : SocketAddrV4) (s : Segment) (r q : Bool) → r ≡ goes from to cl sv → r ≡ false → q ≡ goes from to sv cl → q ≡ false
-    → Other ≡ sided cl sv from to s
-of_neither cl sv from to s r q e t f u =
-    sym (pick_no (Own Client s) (cond (goes from to sv cl) (Own Server s) Other) (sym e ∙ t) ∙ pick_no (Own Server s) Other (sym f ∙ u))
 
 -- ---- what passes
 
@@ -96,10 +79,6 @@ gave_one a x y e f = let g : ◌≡◌ {A = Answer _} (gives x) (gives y) = sym 
 
 never : {A : Type 0} (a : Answer A) (x : A) (n : ℕ) → a ≡ gives x → a ≡ refused n → ⊥
 never a x n e f = let z : ◌≡◌ {A = ℕ} 0 1 = cc in omega arith
-
-pub not_passed : (cl sv : SocketAddrV4) (p : List ℕ) → passes p ≡ false → Failed ≡ class_of cl sv p
-unfolding class_of
-not_passed cl sv p e = sym (pick_no (part_class cl sv (header_of p) (data_of (header_of p) p)) Failed e)
 
 pub header_is : (p : List ℕ) (h : IpRead) → frame_answer p ≡ gives h → header_of p ≡ h
 header_is p h e = sym (framed p h e).is

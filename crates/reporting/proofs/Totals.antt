@@ -1,7 +1,11 @@
 -- Each packet counts once, and each segment arrives in one way; the rest is arithmetic.
 use Rattle.std.proofs.Common.{◌≡◌, ℕ, zero, suc, ◌+◌, ◌-◌, ◌<◌, Bool, true, false, cond, ◌||◌, ltb, List, [], ◌∷◌, length, get_or, take, drop, ℤ, pos, negsuc, sym, refl, ap, ◌∙◌, subst, arith, ltb-false, ltb-true, le-ltb, lt-ltb}
+use Rattle.std.specs.Prelude.{Ok, Err}
 use Rattle.pkt.specs.Answers.{refused_whole, refused_at, gives_all}
 use Rattle.pkt.specs.Fields.{Bytes}
+use Rattle.pkt.specs.Refusal.{number_of}
+use Rattle.pkt.specs.declared.refusal.Refusal.{Refusal}
+use Rattle.pkt.specs.declared.refusal.ListRefusal.TheVariants.{At}
 use Rattle.pkt.proofs.Choice.{pick_yes, pick_no}
 use Rattle.ezpkt.specs.declared.SocketAddrV4.{SocketAddrV4}
 use Rattle.tcp4.specs.declared.Side.TheVariants.{Client, Server}
@@ -18,7 +22,6 @@ use Rattle.reporting.specs.declared.Arrival.TheVariants.{Expected, Early, Late}
 use Rattle.reporting.specs.declared.Class.{Class}
 use Rattle.reporting.specs.declared.Class.TheVariants.{Failed, Other, Own}
 use Rattle.reporting.specs.declared.Report.{Report}
-use Rattle.reporting.specs.declared.Reported.TheVariants.{Is, RefusedAt}
 
 -- ---- the distance
 
@@ -63,7 +66,7 @@ cut_length at [] l = refl
 cut_length at (e ∷ es) l = ap suc (cut_length e es l)
 
 -- what an accepted call reports
-pub reported_is : (l es : List ℕ) (cl sv : SocketAddrV4) (r : Report) → Reports l es cl sv (Is r) → r ≡ report_of cl sv (cut_at 0 es l)
+pub reported_is : (l es : List ℕ) (cl sv : SocketAddrV4) (r : Report) → Reports l es cl sv (Ok r) → r ≡ report_of cl sv (cut_at 0 es l)
 reported_is l es cl sv r e = go (ltb most_packets (length es)) (ltb (first_wrong 0 (length l) es) (length es)) e
   where
     go : (x y : Bool) → gives_all r ≡ cond x (refused_whole 26) (cond y (refused_at 25 (first_wrong 0 (length l) es)) (gives_all (report_of cl sv (cut_at 0 es l)))) → r ≡ report_of cl sv (cut_at 0 es l)
@@ -103,7 +106,7 @@ all_filled l cl sv k at (e ∷ es) r b f =
     subst (λ (j : ℕ). Filled j (report_from cl sv (report_after r (class_of cl sv p)) (cut_at e es l))) n
     (all_filled l cl sv (suc k) e es (report_after r (class_of cl sv p)) b (filled_after k r (class_of cl sv p) f (class_sized cl sv p (drop_bytes at (take e l) (take_bytes e l b)))))
 
-few : (l es : List ℕ) (cl sv : SocketAddrV4) (r : Report) → Bytes l → Reports l es cl sv (Is r) → Few (length es) r.cl × Few (length es) r.sv
+few : (l es : List ℕ) (cl sv : SocketAddrV4) (r : Report) → Bytes l → Reports l es cl sv (Ok r) → Few (length es) r.cl × Few (length es) r.sv
 few l es cl sv r b e =
     let n : length es + 0 ≡ length es = omega arith in
     let f = subst (λ (j : ℕ). Filled j r) n (subst (Filled (length es + 0)) (sym (reported_is l es cl sv r e)) (all_filled l cl sv 0 0 es nothing_yet b filled_none)) in
@@ -134,9 +137,9 @@ first_is at n (e ∷ es) h = go (ltb e at || ltb n e) refl h (first_is e n es)
         earlier f zero g = q
         earlier f (suc j) g = f.before j (omega arith)
 
-first_index : (l es : List ℕ) (cl sv : SocketAddrV4) (n i : ℕ) → Reports l es cl sv (RefusedAt n i)
-    → (n ≡ 25) × (i < length es) × (is_wrong (length l) es i ≡ true) × ((j : ℕ) → j < i → is_wrong (length l) es j ≡ false)
-first_index l es cl sv n i e = go (ltb most_packets (length es)) (ltb (first_wrong 0 (length l) es) (length es)) refl e
+first_index : (l es : List ℕ) (cl sv : SocketAddrV4) (r : Refusal) (i : ℕ) → Reports l es cl sv (Err (At r i))
+    → (number_of r ≡ 25) × (i < length es) × (is_wrong (length l) es i ≡ true) × ((j : ℕ) → j < i → is_wrong (length l) es j ≡ false)
+first_index l es cl sv r i e = go (ltb most_packets (length es)) (ltb (first_wrong 0 (length l) es) (length es)) refl e
   where
     at_index : (k : ℕ) → i ≡ k → k ≡ first_wrong 0 (length l) es → k < length es
         → (i < length es) × (is_wrong (length l) es i ≡ true) × ((j : ℕ) → j < i → is_wrong (length l) es j ≡ false)
@@ -146,12 +149,12 @@ first_index l es cl sv n i e = go (ltb most_packets (length es)) (ltb (first_wro
         (omega arith, f.here, f.before)
 
     go : (x y : Bool) → ltb (first_wrong 0 (length l) es) (length es) ≡ y
-        → refused_at n i ≡ cond x (refused_whole 26) (cond y (refused_at 25 (first_wrong 0 (length l) es)) (gives_all (report_of cl sv (cut_at 0 es l))))
-        → (n ≡ 25) × (i < length es) × (is_wrong (length l) es i ≡ true) × ((j : ℕ) → j < i → is_wrong (length l) es j ≡ false)
+        → refused_at (number_of r) i ≡ cond x (refused_whole 26) (cond y (refused_at 25 (first_wrong 0 (length l) es)) (gives_all (report_of cl sv (cut_at 0 es l))))
+        → (number_of r ≡ 25) × (i < length es) × (is_wrong (length l) es i ≡ true) × ((j : ℕ) → j < i → is_wrong (length l) es j ≡ false)
     go true y t q = let z : ◌≡◌ {A = ℕ} 0 1 = cc in absurd (omega arith)
     go false false t q = let z : ◌≡◌ {A = ℕ} 0 1 = cc in absurd (omega arith)
     go false true t q =
-        let a : n ≡ 25 = cc in
+        let a : number_of r ≡ 25 = cc in
         let b : i ≡ first_wrong 0 (length l) es = cc in
         let f = at_index (first_wrong 0 (length l) es) b refl (ltb-true _ _ t) in
         (a, f.0, f.1, f.2)

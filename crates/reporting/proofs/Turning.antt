@@ -1,12 +1,12 @@
 -- One packet after the other: the report so far, over the packets that are left, is the whole.
-use Rattle.std.proofs.Common.{◌≡◌, ℕ, suc, ◌+◌, ◌-◌, ◌<◌, ◌≤◌, List, length, get_or, take, drop, sym, refl, ap, ◌∙◌, subst, arith}
+use Rattle.std.proofs.Common.{◌≡◌, ℕ, suc, ◌+◌, ◌-◌, ◌<◌, ◌≤◌, List, length, get_or, take, drop, sym, ap, ◌∙◌, subst, arith}
 use Rattle.pkt.specs.Fields.{Bytes}
 use Rattle.ezpkt.specs.declared.SocketAddrV4.{SocketAddrV4}
 use Rattle.inspect.proofs.Numbers.{take_bytes, drop_bytes}
 use Rattle.reporting.specs.Packets.{class_of}
-use Rattle.reporting.specs.Report.{cut_at, first_wrong, most_packets, InOrder, nothing_yet, report_after, report_from, report_of, HasRoom}
+use Rattle.reporting.specs.Report.{cut_at, first_wrong, most_packets, report_after, report_from, report_of, HasRoom}
 use Rattle.reporting.proofs.Cutting.{Right, right_ends, cut_here, cut_none}
-use Rattle.reporting.proofs.Filling.{Sized, class_sized, Filled, filled_none, filled_after, filled_room}
+use Rattle.reporting.proofs.Filling.{Sized, class_sized, Filled, filled_after, filled_room}
 use Rattle.reporting.specs.declared.Class.{Class}
 use Rattle.reporting.specs.declared.Report.{Report}
 
@@ -17,11 +17,6 @@ pub record Left (l es : List ℕ) (cl sv : SocketAddrV4) (r : Report) (at i : �
   pub right : first_wrong at (length l) (drop i es) ≡ length es - i
   pub filled : Filled i r
   pub whole : report_from cl sv r (cut_at at (drop i es) l) ≡ report_of cl sv (cut_at 0 es l)
-
-pub starts : (l es : List ℕ) (cl sv : SocketAddrV4) (r : Report) → InOrder l es → r ≡ nothing_yet → Left l es cl sv r 0 0
-starts l es cl sv r o e =
-    subst (λ (q : Report). Left l es cl sv q 0 0) (sym e)
-    (record { within = omega arith; few = o.few; right = o.right ∙ (let z : length es - 0 ≡ length es = omega arith in sym z); filled = filled_none; whole = refl })
 
 pub next_right : (l es : List ℕ) (cl sv : SocketAddrV4) (r : Report) (at i : ℕ) → Left l es cl sv r at i → i < length es → Right at (length l) i es
 next_right l es cl sv r at i f h = right_ends at (length l) i es h f.right

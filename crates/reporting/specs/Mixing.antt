@@ -1,12 +1,11 @@
 -- Document 02, T-10: "Reports of two flows do not depend on how their packets are mixed."
-use Rattle.std.specs.Prelude.{◌≡◌, ℕ, List, [], ◌∷◌}
+use Rattle.std.specs.Prelude.{◌≡◌, ℕ, List, [], ◌∷◌, Ok}
 use Rattle.ezpkt.specs.declared.SocketAddrV4.{SocketAddrV4}
 use Rattle.reporting.specs.Packets.{class_of}
 use Rattle.reporting.specs.Report.{cut_at, report_of, Reports}
 use Rattle.reporting.specs.declared.Class.{Class}
 use Rattle.reporting.specs.declared.Class.TheVariants.{Failed, Other, Own}
 use Rattle.reporting.specs.declared.Report.{Report}
-use Rattle.reporting.specs.declared.Reported.TheVariants.{Is}
 
 -- those packets that count for a side of the flow, in their order
 abbrev pub kept_by : Class → List ℕ → List (List ℕ) → List (List ℕ)
@@ -41,5 +40,5 @@ pub record ReportsUnmixed : Type 0 where
   -- Two calls for each of two flows, over packets of which none is of both, mixed in two ways: both flows are reported the same.
   pub two_flows : (cl sv cl' sv' : SocketAddrV4) (ps qs : List (List ℕ)) → flow_packets cl sv qs ≡ [] → flow_packets cl' sv' ps ≡ []
       → (l es m fs : List ℕ) → Interleaved ps qs (cut_at 0 es l) → Interleaved ps qs (cut_at 0 fs m)
-      → (r r' q q' : Report) → Reports l es cl sv (Is r) → Reports m fs cl sv (Is r') → Reports l es cl' sv' (Is q) → Reports m fs cl' sv' (Is q')
+      → (r r' q q' : Report) → Reports l es cl sv (Ok r) → Reports m fs cl sv (Ok r') → Reports l es cl' sv' (Ok q) → Reports m fs cl' sv' (Ok q')
       → (r ≡ r') × (q ≡ q')

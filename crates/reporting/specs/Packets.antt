@@ -4,10 +4,10 @@ use Rattle.pkt.specs.Answers.{Answer, refused, gives}
 use Rattle.pkt.specs.declared.ipv4.tcp_hdr.{tcp_hdr}
 use Rattle.ezpkt.specs.declared.SocketAddrV4.{SocketAddrV4}
 use Rattle.tcp4.specs.declared.Side.TheVariants.{Client, Server}
-use Rattle.inspect.specs.Answers.{Verdict}
 use Rattle.inspect.specs.Header.{header_of, data_of}
 use Rattle.inspect.specs.Check.{check_answer}
 use Rattle.inspect.specs.Tcp.{tcp_of}
+use Rattle.inspect.specs.declared.check.Verdict.{Verdict}
 use Rattle.inspect.specs.declared.header.IpRead.{IpRead}
 use Rattle.reporting.specs.declared.Segment.{Segment}
 use Rattle.reporting.specs.declared.Class.{Class}

@@ -1,7 +1,8 @@
 -- The report: document 02, T-10, "For a lent byte slice and the end of each packet in it, report for each side of one TCP flow in exact numbers".
-use Rattle.std.specs.Prelude.{◌≡◌, ℕ, suc, ◌+◌, ◌≤◌, cond, ◌||◌, List, [], ◌∷◌, length, nat_lt}
+use Rattle.std.specs.Prelude.{◌≡◌, ℕ, suc, ◌+◌, ◌≤◌, cond, ◌||◌, List, [], ◌∷◌, length, nat_lt, Result}
 use Rattle.std.proofs.Math.Seq.{slice}
-use Rattle.pkt.specs.Answers.{ListAnswer, refused_whole, refused_at, gives_all, most_bytes}
+use Rattle.pkt.specs.Answers.{ListAnswer, refused_whole, refused_at, gives_all, list_says, most_bytes}
+use Rattle.pkt.specs.declared.refusal.ListRefusal.{ListRefusal}
 use Rattle.ezpkt.specs.declared.SocketAddrV4.{SocketAddrV4}
 use Rattle.tcp4.specs.declared.Side.TheVariants.{Client, Server}
 use Rattle.reporting.specs.Sides.{no_segments, side_after, Few}
@@ -9,8 +10,6 @@ use Rattle.reporting.specs.Packets.{class_of}
 use Rattle.reporting.specs.declared.Class.{Class}
 use Rattle.reporting.specs.declared.Class.TheVariants.{Failed, Other, Own}
 use Rattle.reporting.specs.declared.Report.{Report}
-use Rattle.reporting.specs.declared.Reported.{Reported}
-use Rattle.reporting.specs.declared.Reported.TheVariants.{Is, Refused, RefusedAt}
 
 -- bytes cut at the ends es: the first packet begins at place `at`, each other where the one before it ends
 unfoldable pub cut_at : ℕ → List ℕ → List ℕ → List (List ℕ)
@@ -68,11 +67,6 @@ report_answer l es cl sv =
     (cond (nat_lt (first_wrong 0 (length l) es) (length es)) (refused_at 25 (first_wrong 0 (length l) es))
     (gives_all (report_of cl sv (cut_at 0 es l))))
 
-abbrev pub reported_says : Reported → ListAnswer Report
-reported_says (Is r) = gives_all r
-reported_says (Refused n) = refused_whole n
-reported_says (RefusedAt n i) = refused_at n i
-
 -- the call's whole promise: it writes nothing
-abbrev pub Reports : List ℕ → List ℕ → SocketAddrV4 → SocketAddrV4 → Reported → Type 0
-Reports l es cl sv r = reported_says r ≡ report_answer l es cl sv
+abbrev pub Reports : List ℕ → List ℕ → SocketAddrV4 → SocketAddrV4 → Result Report ListRefusal → Type 0
+Reports l es cl sv r = list_says r ≡ report_answer l es cl sv

@@ -1,21 +1,19 @@
 // A report of one TCP flow over the packets of a lent slice: what each side sent, and how it arrived.
 #![tactic(auto)]
 
-ghost use Rattle.std.specs.Prelude.{◌≡◌, ◌≤◌, true};
+ghost use Rattle.std.specs.Prelude.{◌≡◌, ◌<◌, ◌≤◌, true, length, IfSome, IfNone};
 ghost use Rattle.pkt.specs.Answers.{most_bytes};
 ghost use Rattle.tcp4.specs.Tcp4.{set_in};
-ghost use Rattle.inspect.specs.Answers.{checked_says};
-ghost use Rattle.reporting.specs.Sides.{ahead, arrival_of, behind_it, next_by, as_expected, as_early, as_late, no_segments, side_after, Few};
-ghost use Rattle.reporting.specs.Packets.{is_passed, passes, same_end, goes, sided, tcp_class, class_of};
-ghost use Rattle.reporting.specs.Report.{cut_at, first_wrong, nothing_yet, report_after, HasRoom, report_of, most_packets, InOrder, Reports};
+ghost use Rattle.reporting.specs.Sides.{ahead, arrival_of, behind_it, next_by, side_after, Few};
+ghost use Rattle.reporting.specs.Packets.{passes, goes, sided, tcp_class, class_of};
+ghost use Rattle.reporting.specs.Report.{cut_at, first_wrong, report_after, HasRoom, report_of, most_packets, InOrder, Reports};
 
 use ezpkt::SocketAddrV4;
-use inspect::check::Checked;
-use inspect::header::{IpRead, Seen};
-use inspect::tcp::TcpSeen;
+use inspect::header::IpRead;
 use inspect::{check, header, tcp};
+use pkt::ipv4;
 use pkt::ipv4::{proto, tcp_hdr};
-use pkt::{ipv4, refusal};
+use pkt::refusal::{ListRefusal, Refusal};
 use tcp4::Side;
 
 // The most packets of a report.
@@ -26,7 +24,7 @@ const HALF: u32 = 0x80000000;
 
 // What one side sent: segments, payload bytes, SYNs, FINs, how many segments arrived as expected, early and late, and the sequence number that is
 // expected next, which is 0 before the first segment.
-#[derive(Clone, Copy, Drop)]
+#[derive(Clone, Copy, Default, Drop)]
 pub struct Tally {
     pub segments: usize,
     pub bytes: usize,
@@ -39,20 +37,12 @@ pub struct Tally {
 }
 
 // Both sides of a flow, how many packets failed the check, and how many were of other flows.
-#[derive(Clone, Copy, Drop)]
+#[derive(Clone, Copy, Default, Drop)]
 pub struct Report {
     pub cl: Tally,
     pub sv: Tally,
     pub failed: usize,
     pub others: usize,
-}
-
-// The report, or the refusal's number, with the index of the first end that it is for where it is for one.
-#[derive(Clone, Copy, Drop)]
-pub enum Reported {
-    Is(Report),
-    Refused(u8),
-    RefusedAt(u8, usize),
 }
 
 // A segment: its sequence number, its flags and its payload bytes.
@@ -64,7 +54,7 @@ struct Segment {
 }
 
 // How a segment arrives.
-#[derive(Clone, Copy, Drop)]
+#[derive(Clone, Copy, PartialEq, Eq, Drop)]
 enum Arrival {
     Expected,
     Early,
@@ -83,7 +73,7 @@ enum Class {
 fn ahead_of(next: u32, seq: u32) -> u32
     ensures { result ≡ ahead next seq }
 {
-    std::num::wrapping_sub_u32(seq, next)
+    seq.wrapping_sub(next)
 }
 
 fn arrives(t: Tally, s: Segment) -> Arrival
@@ -116,7 +106,7 @@ fn behind(s: Segment) -> u32
     ensures { result ≡ behind_it s }
 {
     let consumed = s.size + set_in(s.flags, ipv4::TCP_SYN) + set_in(s.flags, ipv4::TCP_FIN);
-    std::num::wrapping_add_u32(s.seq, consumed as u32)
+    s.seq.wrapping_add(consumed as u32)
 }
 
 fn next_by(a: Arrival, next: u32, s: Segment) -> u32
@@ -124,43 +114,13 @@ fn next_by(a: Arrival, next: u32, s: Segment) -> u32
     ensures { result ≡ next_by a next s }
 {
     match a {
-        Arrival::Expected => behind(s),
-        Arrival::Early => behind(s),
+        Arrival::Expected | Arrival::Early => behind(s),
         Arrival::Late => next,
     }
 }
 
-fn as_expected(a: Arrival) -> usize
-    ensures { result ≡ as_expected a }
-{
-    match a {
-        Arrival::Expected => 1,
-        Arrival::Early => 0,
-        Arrival::Late => 0,
-    }
-}
-
-fn as_early(a: Arrival) -> usize
-    ensures { result ≡ as_early a }
-{
-    match a {
-        Arrival::Expected => 0,
-        Arrival::Early => 1,
-        Arrival::Late => 0,
-    }
-}
-
-fn as_late(a: Arrival) -> usize
-    ensures { result ≡ as_late a }
-{
-    match a {
-        Arrival::Expected => 0,
-        Arrival::Early => 0,
-        Arrival::Late => 1,
-    }
-}
-
 // A side after one segment more.
+#[tactic(auto, unfolding(crate::specs::Sides::tallied))]
 fn side_after(t: Tally, s: Segment) -> Tally
     requires { (s.size ≤ most_bytes) × Few most_packets t }
     ensures { result ≡ side_after t s }
@@ -171,34 +131,18 @@ fn side_after(t: Tally, s: Segment) -> Tally
         bytes: t.bytes + s.size,
         syns: t.syns + set_in(s.flags, ipv4::TCP_SYN),
         fins: t.fins + set_in(s.flags, ipv4::TCP_FIN),
-        expected: t.expected + as_expected(a),
-        early: t.early + as_early(a),
-        late: t.late + as_late(a),
+        expected: t.expected + usize::from(a == Arrival::Expected),
+        early: t.early + usize::from(a == Arrival::Early),
+        late: t.late + usize::from(a == Arrival::Late),
         next: next_by(a, t.next, s),
     }
-}
-
-fn is_passed(checked: Checked) -> bool
-    ensures { result ≡ is_passed (checked_says checked) }
-{
-    match checked {
-        Checked::Good => true,
-        Checked::NoChecksum => true,
-        Checked::Refused(_) => false,
-    }
-}
-
-fn same_end(a: SocketAddrV4, b: SocketAddrV4) -> bool
-    ensures { result ≡ same_end a b }
-{
-    a.ip == b.ip && a.port == b.port
 }
 
 // Whether a segment that goes from one end to another goes from a to b.
 fn goes(from: SocketAddrV4, to: SocketAddrV4, a: SocketAddrV4, b: SocketAddrV4) -> bool
     ensures { result ≡ goes from to a b }
 {
-    same_end(from, a) && same_end(to, b)
+    from == a && to == b
 }
 
 // The class of a segment between two ends, for the flow between cl and sv.
@@ -246,7 +190,7 @@ fn passed_class(cl: SocketAddrV4, sv: SocketAddrV4, packet: &[u8]) -> Class
     requires { passes packet.now ≡ true }
     ensures { result ≡ class_of cl sv packet.now }
 {
-    let Seen::Packet(h) = header::frame(packet) else {
+    let Ok(h) = header::frame(packet) else {
         return Class::Failed;
     };
     if h.protocol != proto::TCP {
@@ -255,123 +199,97 @@ fn passed_class(cl: SocketAddrV4, sv: SocketAddrV4, packet: &[u8]) -> Class
     let start = h.start;
     let end = h.end;
     let part = &packet[start..end];
-    let TcpSeen::Header(t) = tcp::read(part) else {
+    let Ok(t) = tcp::read(part) else {
         return Class::Other;
     };
     tcp_class(cl, sv, h, t, part.len())
 }
 
 // The class of a packet, which is checked once.
+#[tactic(auto, unfolding(crate::specs::Packets::class_of))]
 fn class_of(cl: SocketAddrV4, sv: SocketAddrV4, packet: &[u8]) -> Class
     ensures { result ≡ class_of cl sv packet.now }
 {
-    if !is_passed(check::check(packet)) {
-        return Class::Failed;
+    match check::check(packet) {
+        Ok(_) => passed_class(cl, sv, packet),
+        Err(_) => Class::Failed,
     }
-    passed_class(cl, sv, packet)
 }
 
 // A report after one packet more.
+#[tactic(auto, unfolding(crate::specs::Report::report_after, crate::specs::Report::HasRoom))]
 fn report_after(r: Report, class: Class) -> Report
     requires { HasRoom r class }
     ensures { result ≡ report_after r class }
 {
-    let mut q = r;
     match class {
-        Class::Failed => {
-            q.failed = r.failed + 1;
-            q
-        }
-        Class::Other => {
-            q.others = r.others + 1;
-            q
-        }
-        Class::Own(side, s) => match side {
-            Side::Client => {
-                q.cl = side_after(r.cl, s);
-                q
-            }
-            Side::Server => {
-                q.sv = side_after(r.sv, s);
-                q
-            }
+        Class::Failed => Report {
+            failed: r.failed + 1,
+            ..r
+        },
+        Class::Other => Report {
+            others: r.others + 1,
+            ..r
+        },
+        Class::Own(Side::Client, s) => Report {
+            cl: side_after(r.cl, s),
+            ..r
+        },
+        Class::Own(Side::Server, s) => Report {
+            sv: side_after(r.sv, s),
+            ..r
         },
     }
 }
 
-fn no_segments() -> Tally
-    ensures { result ≡ no_segments }
-{
-    Tally {
-        segments: 0,
-        bytes: 0,
-        syns: 0,
-        fins: 0,
-        expected: 0,
-        early: 0,
-        late: 0,
-        next: 0,
-    }
-}
-
-fn nothing_yet() -> Report
-    ensures { result ≡ nothing_yet }
-{
-    Report {
-        cl: no_segments(),
-        sv: no_segments(),
-        failed: 0,
-        others: 0,
-    }
-}
-
-// The first index whose end lies below the one before or past n bytes, or how many ends there are.
-fn first_wrong(ends: &[usize], n: usize) -> usize
-    ensures { result ≡ first_wrong 0 n ends.now }
+// The first index whose end lies below the one before or past n bytes, where there is one.
+#[tactic(auto, using(crate::proofs::Cutting::below_here, crate::proofs::Cutting::past_here, crate::proofs::Cutting::right_here, crate::proofs::Cutting::none_left))]
+fn first_wrong(ends: &[usize], n: usize) -> Option<usize>
+    ensures found { IfSome result (λ i. (i < length ends.now) × (i ≡ first_wrong 0 n ends.now)) }
+    ensures none { IfNone result (first_wrong 0 n ends.now ≡ length ends.now) }
 {
     let mut at = 0;
-    let mut i = 0;
-    while i < ends.len() {
-        let end = ends[i];
+    for (i, &end) in ends.iter().enumerate() {
         if end < at {
-            return i;
+            return Some(i);
         }
         if n < end {
-            return i;
+            return Some(i);
         }
         at = end;
-        i += 1;
     }
-    i
+    None
 }
 
 // The report of packets whose ends are in order.
+#[tactic(auto, using(crate::proofs::Turning::next_right, crate::proofs::Turning::next_room, crate::proofs::Turning::turns, crate::proofs::Turning::ends))]
 fn report_of(packets: &[u8], ends: &[usize], cl: SocketAddrV4, sv: SocketAddrV4) -> Report
     requires { InOrder packets.now ends.now }
     ensures { result ≡ report_of cl sv (cut_at 0 ends.now packets.now) }
 {
-    let mut r = nothing_yet();
+    let mut r = Report::default();
     let mut at = 0;
-    let mut i = 0;
-    while i < ends.len() {
-        let end = ends[i];
+    for &end in ends {
         r = report_after(r, class_of(cl, sv, &packets[at..end]));
         at = end;
-        i += 1;
     }
     r
 }
 
 // The report of the flow between cl and sv over packets that stand one behind the other and end so, each checked once; or a refusal.
-pub fn flow_report(packets: &[u8], ends: &[usize], cl: SocketAddrV4, sv: SocketAddrV4) -> Reported
+pub fn flow_report(
+    packets: &[u8],
+    ends: &[usize],
+    cl: SocketAddrV4,
+    sv: SocketAddrV4,
+) -> Result<Report, ListRefusal>
     ensures { Reports packets.now ends.now cl sv result }
 {
     if PACKETS < ends.len() {
-        return Reported::Refused(refusal::TOO_MANY);
+        return Err(ListRefusal::Whole(Refusal::TooMany));
     }
-    let first = first_wrong(ends, packets.len());
-    if first < ends.len() {
-        return Reported::RefusedAt(refusal::BROKEN, first);
+    if let Some(first) = first_wrong(ends, packets.len()) {
+        return Err(ListRefusal::At(Refusal::Broken, first));
     }
-    Reported::Is(report_of(packets, ends, cl, sv))
+    Ok(report_of(packets, ends, cl, sv))
 }

@@ -19,7 +19,7 @@ returns c =
     let bytes : Bytes d = λ i. (c.shared_slice_known-1.given i).fits in
     let byte : a.protocol < 256 = search rules in
     let sum =
-    c.number-csum.ensures
+    c.unwrap_or-csum.ensures
     ∙ summed_is c.transport_csum.result 65515 (length d) (checksum all) c.transport_csum.ensures c.requires.few in
     c.without.ensures
     ∙ simp (sum, c.be16.ensures) (without_behind a.h.saddr a.h.daddr a.protocol a.at d byte c.requires bytes)

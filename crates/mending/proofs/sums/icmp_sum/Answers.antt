@@ -22,6 +22,6 @@ returns c =
     let few : length part ≤ 65507 = omega (arith, mid_length 8 d, c.requires.1) in
     let id = c.be16.ensures in
     let seq = c.be16-2.ensures in
-    c.number.ensures
+    c.unwrap_or.ensures
     ∙ summed_is c.icmp_csum.result 65507 (length part) _ c.icmp_csum.ensures few
     ∙ simp (id, seq, mid_tail 8 d) (ap checksum (echo_parts d bytes h))

@@ -31,6 +31,6 @@ returns c =
     let z : h.start - 0 ≡ h.start = omega arith in
     let front : List ℕ = take (h.start - 0) l in
     let few : length front ≤ 65535 = simp length-take (omega (arith, frame_end l h bytes c.requires)) in
-    let sum = c.number-csum.ensures ∙ summed_is c.ip_csum.result 65535 (length front) (checksum front) c.ip_csum.ensures few in
+    let sum = c.unwrap_or-csum.ensures ∙ summed_is c.ip_csum.result 65535 (length front) (checksum front) c.ip_csum.ensures few in
     c.without.ensures
     ∙ simp (sum, c.be16.ensures, z) (without_header l h bytes c.requires)

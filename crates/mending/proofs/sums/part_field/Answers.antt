@@ -10,22 +10,12 @@ use Rattle.inspect.specs.declared.header.IpRead.{IpRead}
 use Rattle.inspect.specs.declared.check.Kind.{Kind}
 use Rattle.inspect.specs.declared.check.Kind.TheVariants.{Icmp}
 use Rattle.inspect.proofs.Reading.{framed}
-use Rattle.mending.specs.Sums.{part_fields}
 use Rattle.mending.proofs.Wholes.{Known, known, shape_long, data_most, part_asks, sum_within}
-use Rattle.mending.proofs.sums.of_whole.Goals as goal
+use Rattle.mending.proofs.sums.part_field.Goals as goal
 
 -- what is known once the kind is
 known_as : (l : List ℕ) (h : IpRead) {k j : Kind} → examine_answer l ≡ gives (whole h k) → k ≡ j → Known l h j
 known_as l h {j = j} e s = known l h j (e ∙ ap (λ (i : Kind). gives (whole h i)) s)
-
-pub ip_sum-requires : goal.ip_sum-requires
-ip_sum-requires c = (known c.args.packet.now c.args.h c.args.kind c.requires).frame
-
-pub field-ip-requires : goal.field-ip-requires
-field-ip-requires c =
-    let a = c.args in
-    let f = framed a.packet.now a.h (known a.packet.now a.h a.kind c.requires).frame in
-    omega arith
 
 pub slice_bounds-part-count : goal.slice_bounds-part-count
 slice_bounds-part-count c =
@@ -102,24 +92,3 @@ field-requires-in-Icmp c =
     let h : IpRead = c.args.h in
     let q = known_as l h c.requires c.in-Icmp.is in
     omega (arith, sum_within l h _ q, (framed l h q.frame).least)
-
-pub returns-in-Tcp : goal.returns-in-Tcp
-unfolding part_fields
-returns-in-Tcp c =
-    rw c.in-Tcp.is (simp (c.field-ip.ensures, c.ip_sum.ensures, c.field.ensures, c.behind_pseudo.ensures))
-
-pub returns-in-Udp : goal.returns-in-Udp
-unfolding part_fields
-returns-in-Udp c =
-    rw c.in-Udp.is
-    (simp (c.field-ip.ensures, c.ip_sum.ensures, c.field-in-Udp.ensures, c.nonzero_of.ensures, c.behind_pseudo-in-Udp.ensures))
-
-pub returns-in-Bare : goal.returns-in-Bare
-unfolding part_fields
-returns-in-Bare c =
-    rw c.in-Bare.is (simp (c.field-ip.ensures, c.ip_sum.ensures))
-
-pub returns-in-Icmp : goal.returns-in-Icmp
-unfolding part_fields
-returns-in-Icmp c =
-    rw c.in-Icmp.is (simp (c.field-ip.ensures, c.ip_sum.ensures, c.field-in-Icmp.ensures, c.icmp_sum.ensures))

@@ -1,7 +1,0 @@
--- A place past the end is set to no effect.
-use mathlib.Core.Path.{sym}
-use lib.Seq.{set_out}
-use Rattle.mending.proofs.put_byte.Goals as goal
-
-pub returns-else-at-out : goal.returns-else-at-out
-returns-else-at-out c = sym (set_out c.args.out.now c.args.at c.args.b c.if-at-out.false)
