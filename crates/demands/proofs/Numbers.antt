@@ -37,7 +37,7 @@ use Rattle.packet.specs.Headroom.{most_end, valid, leads}
 use Rattle.packet.specs.Answers.{if_valid, lower_answer, copy_answer}
 use Rattle.packet.specs.declared.Packet.{Packet}
 use Rattle.planner.specs.Cutting.{piece_count}
-use Rattle.planner.specs.Answers.{can_plan, plan_answer}
+use Rattle.planner.specs.Answers.{can_plan, plan_answer, job_for}
 use Rattle.feed.specs.Feed.{bad_link, frame_size, feed_answer, written_for}
 use Rattle.pcap.specs.Pcap.{file_header}
 use Rattle.pcap.specs.Answers.{most_micros, record_answer}
@@ -375,7 +375,7 @@ numbered =
       progressing = λ ok s r e. told _ _ _ e (stands_in ok s);
       tabling = λ t d m l r d' m' x. told _ _ _ x.answer (mapped_in _ (λ y. outcome y.state) _ (tabled_in t d m l));
       taking_out = λ t d m k o r d' m' o' x. told _ _ _ x.answer (mapped_in _ (λ y. length y.datagram) _ (out_in t d m k (length o)));
-      discarding = λ t d m k r d' m' x. told _ _ _ x.answer (mapped_in _ (λ i. 0) _ (discard_in t (length d) (length m) k));
+      discarding = λ t d m k r d' m' x. told _ _ _ x.answer (mapped_in _ (λ i. tt {0}) _ (discard_in t (length d) (length m) k));
       framing = λ l r e. told _ _ _ e (frame_in _ refl refl refl l);
       reading = λ l r e. told _ _ _ e (read_in_lem _ refl refl refl refl refl l);
       examining = λ l r e. told _ _ _ e (examine_in l);
@@ -389,7 +389,7 @@ numbered =
       mending = λ l o e r o' e' x. subst (AmongList _ _ _) (sym x.answer) (mended_in l (length o) (length e));
       exporting = λ l o r o' x. subst (AmongList _ _ _) (sym x.answer) (exported_in l (length o));
       judging = λ n b r e. told _ _ _ e (refusing _ (ltb 65515 n) 1 _ refl (accepted b));
-      deciding = λ n m places j x. told _ _ _ x.0 (plan_in n m places);
+      deciding = λ n m places r x. told _ _ _ x (mapped_in _ (job_for n m) _ (plan_in n m places));
       planning = λ n m l r l' x. told _ _ _ x.answer (plan_in n m (length l));
       feeding = λ f b sec usec s o r s' o' x. told _ _ _ x.answer (mapped_in _ (written_for f (length b)) _ (feed_in f.link (length b) usec (length s) (length o)));
       making =

@@ -115,7 +115,7 @@ refused_keep =
           (l.0, l.1, l.2, x.output_is ∙ ap (λ (b : Answer Outing). datagram_in b o) (sym q));
       discarding =
           λ t d m k r d' m' n x e.
-          slot_left (discard_answer t (length d) (length m) k) n t r.table d m d' m' (mapped_refused (λ i. 0) _ n (sym e ∙ x.answer)) x.slots_are
+          slot_left (discard_answer t (length d) (length m) k) n t r.table d m d' m' (mapped_refused (λ i. tt {0}) _ n (sym e ∙ x.answer)) x.slots_are
           x.payloads_are x.maps_are;
       making = λ h b b' n x. x.after ∙ kept _ (number_of n) _ b (sym x.answer);
       appending = λ p k d b b' n x. x.after ∙ kept _ (number_of n) _ b (sym x.answer);

@@ -2,7 +2,7 @@
 use mathlib.Core.Path.{◌≡◌, refl, sym, ap, subst, ◌∙◌}
 use mathlib.Core.Logic.{◌↔◌}
 use mathlib.Core.Bool.{Bool, true, false, cond}
-use mathlib.Core.Option.{Option, none, some}
+use Rattle.std.specs.Prelude.{Option, Some, None}
 use mathlib.Core.List.{List, [], ◌∷◌, ◌++◌}
 use Prim.Native.Nat.{ℕ, ◌≤◌, ◌<◌}
 use native.Mathlib.Omega.{arith}
@@ -67,7 +67,7 @@ module _ (t : Template) (p : List ℕ) (one : OneHeader t) (few : length p ≤ s
       (λ c. let x = w.0 c in (omega (arith, x.0, e), x.1), λ x. w.1 (omega (arith, x.0, e), x.1))
 
   -- it is the table's
-  led_to_lem : (u : State) → assembly_of s d m (template_key t) ≡ some u → u ≡ alone
+  led_to_lem : (u : State) → assembly_of s d m (template_key t) ≡ Some u → u ≡ alone
   led_to_lem u e = led_is (template_key t) (pieces_of (template_key t) ls) u (sym (h.led (template_key t)) ∙ e) ∙ sym alone_is
 
   -- ---- handing in one more
@@ -99,8 +99,8 @@ module _ (t : Template) (p : List ℕ) (one : OneHeader t) (few : length p ≤ s
     given n e = go (assembly_of s d m (template_key t)) refl (sym told.answer ∙ e) told.output_is
       where
         go : (w : Option State) → assembly_of s d m (template_key t) ≡ w → mapped length (out_by (length o) w) ≡ gives n → o' ≡ put_out (out_by (length o) w) o → Given n
-        go none q r x = let z : ◌≡◌ {A = ℕ} 0 1 = cc in absurd (omega arith)
-        go (some u) q r x = inner (complete u) refl (fitting (length (held_bytes u)) (length o)) r x
+        go None q r x = let z : ◌≡◌ {A = ℕ} 0 1 = cc in absurd (omega arith)
+        go (Some u) q r x = inner (complete u) refl (fitting (length (held_bytes u)) (length o)) r x
           where
             inner : (b : Bool) → complete u ≡ b → (c : Answer ℕ)
                 → mapped length (cond b (mapped (λ i. held_bytes u) c) (refused 27)) ≡ gives n
@@ -122,12 +122,12 @@ module _ (t : Template) (p : List ℕ) (one : OneHeader t) (few : length p ≤ s
     answered some_piece c room =
         let whole : held_bytes alone ≡ p = built_whole slot_bytes slot_map (omega arith) (omega arith) t p one few ls built c in
         told.answer
-        ∙ ap (λ (w : Option State). mapped length (out_by (length o) w)) (h.led (template_key t) ∙ led (pieces_of (template_key t) ls) some_piece ∙ ap some (sym alone_is))
+        ∙ ap (λ (w : Option State). mapped length (out_by (length o) w)) (h.led (template_key t) ∙ led (pieces_of (template_key t) ls) some_piece ∙ ap Some (sym alone_is))
         ∙ ap (mapped length) (pick_yes _ _ c)
         ∙ ap (λ (b : List ℕ). mapped length (mapped (λ n. b) (fitting (length b) (length o)))) whole
         ∙ ap (λ (x : Answer ℕ). mapped length (mapped (λ n. p) x)) (pick_no _ _ (le-ltb (length o) (length p) room))
       where
-        led : (ps : List Piece) → 0 < length ps → led_to (template_key t) ps ≡ some (run (opened (template_key t) slot_bytes slot_map) ps)
+        led : (ps : List Piece) → 0 < length ps → led_to (template_key t) ps ≡ Some (run (opened (template_key t) slot_bytes slot_map) ps)
         led [] n = absurd (omega arith)
         led (x ∷ ps) n = refl
 

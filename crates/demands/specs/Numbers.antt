@@ -138,7 +138,7 @@ pub record Numbered : Type 0 where
   pub reporting : (l es : List ℕ) (cl sv : SocketAddrV4) (r : Result Report ListRefusal) → Reports l es cl sv r → AmongList (26 ∷ []) (25 ∷ []) (length es) (list_says r)
   -- Document 02, T-07, "The check .. refuses with 1. Refusals of the planner: 1, then 21 .., then 3": `is_plan` and `judge`, `decide`, `plan`
   pub judging : (n : ℕ) (b : Bool) (r : Result Bool Refusal) → says r ≡ judge_answer n b → Among (1 ∷ []) (says r)
-  pub deciding : (n m places : ℕ) (j : Job) → Decided n m places j → Among (1 ∷ 21 ∷ 3 ∷ []) (says j.answer)
+  pub deciding : (n m places : ℕ) (r : Result Job Refusal) → Decided n m places r → Among (1 ∷ 21 ∷ 3 ∷ []) (says r)
   pub planning : (n m : ℕ) (l : List BlockRequest) (r : Result ℕ Refusal) (l' : List BlockRequest) → Plans n m l r l' → Among (1 ∷ 21 ∷ 3 ∷ []) (says r)
   -- Document 02, T-05, "1, 24 .., 17, 3": a feed's `frame` (`begin` is `write_header`)
   pub feeding : (f : Feed) (b : List ℕ) (sec usec : ℕ) (s o : List ℕ) (r : Result Written Refusal) (s' o' : List ℕ) → Feeds f b sec usec s o r s' o'

@@ -60,8 +60,8 @@ pub record RefusedKeep : Type 0 where
   pub taking_out : (t : List Slot) (d m : List ℕ) (k : Key) (o : List ℕ) (r : TakenOut) (d' m' o' : List ℕ) (n : ℕ) → TakesOut t d m k o r d' m' o'
       → says r.answer ≡ refused n → (r.table ≡ t) × (d' ≡ d) × (m' ≡ m) × (o' ≡ o)
   -- and `discard`
-  pub discarding : (t : List Slot) (d m : List ℕ) (k : Key) (r : Discarded) (d' m' : List ℕ) (n : ℕ) → Discards t d m k r d' m'
-      → says r.answer ≡ refused n → (r.table ≡ t) × (d' ≡ d) × (m' ≡ m)
+  pub discarding : (t : List Slot) (d m : List ℕ) (k : Key) (r : Discarded) (d' m' : List ℕ) (i : ℕ) → Discards t d m k r d' m'
+      → says r.answer ≡ refused i → (r.table ≡ t) × (d' ≡ d) × (m' ≡ m)
   -- `Packet::new`: the buffer
   pub making : (h : ℕ) (b b' : List ℕ) (e : Refusal) → MadeNew h b (Err e) b' → b' ≡ b
   -- `push_slice`, `push_bytes`, `push_hdr`, `push`: the buffer

@@ -1,6 +1,5 @@
 -- Document 02, T-03: "demand 3 then holds for each key whose pieces end within 8,192", over the calls of a table.
-use Rattle.std.specs.Prelude.{◌≡◌, ◌↔◌, false, ℕ, ◌≤◌, length}
-use Rattle.std.proofs.Math.Option.{some}
+use Rattle.std.specs.Prelude.{◌≡◌, ◌↔◌, false, ℕ, ◌≤◌, length, Some}
 use mathlib.Core.List.{List, [], ◌∷◌, ◌++◌, Memᴰ}
 use Rattle.pkt.specs.Answers.{gives, says}
 use Rattle.pkt.specs.Written.{written}
@@ -28,7 +27,7 @@ pub record TableFromOne (t : Template) (p : List ℕ) (ls : List (List ℕ)) (s 
   pub accepted : (l : List ℕ) (off len : ℕ) → CutBy t p l off len → AtMostEight (ls ++ (l ∷ [])) → (a : Placed) (d' m' : List ℕ)
       → Tables (table_take s d m l) s d m a d' m' → (x : Outcome) × (says a.answer ≡ gives x)
   -- "and the state is never spoilt."
-  pub never_spoilt : (u : State) → assembly_of s d m (template_key t) ≡ some u → u.spoilt ≡ false
+  pub never_spoilt : (u : State) → assembly_of s d m (template_key t) ≡ Some u → u.spoilt ≡ false
   -- "It is complete exactly when at least one was handed in and together they cover the payload,": so answers `take_out` where there is room,
   pub complete_when : (o : List ℕ) (a : TakenOut) (d' m' o' : List ℕ) → length p ≤ length o → TakesOut s d m (template_key t) o a d' m' o'
       → ((n : ℕ) × (says a.answer ≡ gives n)) ↔ (Carried (template_key t) ls × Cover t p ls)
