@@ -3,13 +3,7 @@ use crate::shown;
 use ezpkt::Marks;
 use ezpkt::icmp4::{EchoSent, IcmpFlow};
 use ezpkt::part::front;
-
-// The flow after a packet, and how many bytes it has, or 0.
-#[derive(Clone, Copy, Drop)]
-struct Run {
-    flow: IcmpFlow,
-    end: usize,
-}
+use std::io;
 
 // The same calls on two flows.
 #[derive(Clone, Copy, Drop)]
@@ -18,38 +12,36 @@ struct Flows {
     plain: IcmpFlow,
 }
 
-fn ran(flow: IcmpFlow, sent: EchoSent) -> Run {
-    match sent {
-        EchoSent::Packet(flow, end) => Run { flow, end },
-        EchoSent::Refused(_) => Run { flow, end: 0 },
-    }
+// The flow after an echo or a reply and how many bytes that has, or 0.
+fn sent(reply: bool, flow: IcmpFlow, out: &mut [u8]) -> EchoSent {
+    let sent = if reply {
+        flow.echo_reply(b"lap!", out)
+    } else {
+        flow.echo(b"lap!", out)
+    };
+    sent.unwrap_or(EchoSent { flow, size: 0 })
 }
 
-fn echoed(reply: bool, flow: IcmpFlow, out: &mut [u8]) -> Run {
-    if reply {
-        return ran(flow, flow.echo_reply(b"lap!", out));
-    }
-    ran(flow, flow.echo(b"lap!", out))
-}
-
-fn both(words: &[u8], reply: bool, flows: Flows) -> Flows {
+fn both(rt: &impl Print, what: &str, reply: bool, flows: Flows) -> io::Result<Flows> {
     let mut a = [0u8; 32];
     let mut b = [0u8; 32];
-    let x = echoed(reply, flows.marked, &mut a);
-    let y = echoed(reply, flows.plain, &mut b);
-    shown::say(words);
-    shown::say_both(front(&a, x.end), front(&b, y.end));
-    let marked = x.flow;
-    let plain = y.flow;
-    Flows { marked, plain }
+    let x = sent(reply, flows.marked, &mut a);
+    let y = sent(reply, flows.plain, &mut b);
+    println!(rt; "ICMP, {what}")?;
+    shown::show_both(rt, front(&a, x.size), front(&b, y.size))?;
+    Ok(Flows {
+        marked: x.flow,
+        plain: y.flow,
+    })
 }
 
 // Two of each, so that both numbers have moved on.
-pub(crate) fn calls(cl: u32, sv: u32, marks: Marks) {
+pub(crate) fn calls(rt: &impl Print, cl: u32, sv: u32, marks: Marks) -> io::Result<()> {
     let plain = IcmpFlow::new(cl, sv);
     let marked = plain.marked(marks);
-    let one = both(b"ICMP, an echo\n", false, Flows { marked, plain });
-    let two = both(b"ICMP, a reply\n", true, one);
-    let three = both(b"ICMP, the next echo\n", false, two);
-    both(b"ICMP, the next reply\n", true, three);
+    let one = both(rt, "an echo", false, Flows { marked, plain })?;
+    let two = both(rt, "a reply", true, one)?;
+    let three = both(rt, "the next echo", false, two)?;
+    both(rt, "the next reply", true, three)?;
+    Ok(())
 }

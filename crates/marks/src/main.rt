@@ -8,6 +8,7 @@ mod tcp;
 mod udp;
 
 use ezpkt::{Marks, SocketAddrV4};
+use std::io;
 
 const MARKS: Marks = Marks { tos: 16, ttl: 1 };
 
@@ -21,8 +22,8 @@ const SERVER: SocketAddrV4 = SocketAddrV4 {
     port: 80,
 };
 
-fn main() {
-    tcp::calls(CLIENT, SERVER, MARKS);
-    udp::calls(CLIENT, SERVER, MARKS);
-    icmp::calls(CLIENT.ip, SERVER.ip, MARKS);
+fn main(rt: HostRuntime) -> io::Result<()> {
+    tcp::calls(&rt, CLIENT, SERVER, MARKS)?;
+    udp::calls(&rt, CLIENT, SERVER, MARKS)?;
+    icmp::calls(&rt, CLIENT.ip, SERVER.ip, MARKS)
 }

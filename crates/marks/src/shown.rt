@@ -1,56 +1,34 @@
 // What is shown of a packet that was built twice.
+use std::io;
 
-const STDOUT_FILENO: i32 = 1;
+// Where the type of service, the time to live, and the checksum of the header that has them stand.
+const MARKED: [usize; 4] = [1, 8, 10, 11];
 
-pub(crate) fn say(words: &[u8]) {
-    io::write_all(STDOUT_FILENO, words);
-}
-
-// Byte i, and 0 past the end.
-fn byte(packet: &[u8], i: usize) -> u8 {
-    if i < packet.len() {
-        return packet[i];
+// Those bytes, and 0 past the end.
+fn show_marks(rt: &impl Print, packet: &[u8]) -> io::Result<()> {
+    for i in MARKED {
+        let byte = packet.get(i).copied().unwrap_or(0);
+        print!(rt; " {byte:02x}")?;
     }
-    0
-}
-
-fn say_byte(packet: &[u8], i: usize) {
-    say(b" ");
-    io::print_hex(STDOUT_FILENO, byte(packet, i) as u64, 2);
-}
-
-// The type of service, the time to live, and the checksum of the header that has them.
-fn say_marks(packet: &[u8]) {
-    say_byte(packet, 1);
-    say_byte(packet, 8);
-    say_byte(packet, 10);
-    say_byte(packet, 11);
-}
-
-fn is_mark(i: usize) -> bool {
-    (i == 1) | (i == 8) | (i == 10) | (i == 11)
+    Ok(())
 }
 
 // Whether two packets have the same length, and the same bytes but for those.
 fn are_alike(a: &[u8], b: &[u8]) -> bool {
-    for i in 0..a.len() {
-        if (byte(a, i) != byte(b, i)) & !is_mark(i) {
-            return false;
-        }
-    }
-    a.len() == b.len()
+    let mut pairs = a.iter().zip(b).enumerate();
+    a.len() == b.len() && pairs.all(|(i, (x, y))| *x == *y || MARKED.contains(&i))
 }
 
-pub(crate) fn say_both(marked: &[u8], plain: &[u8]) {
-    say(b"  ");
-    io::print_decimal(STDOUT_FILENO, marked.len() as u64);
-    say(b":");
-    say_marks(marked);
-    say(b",");
-    say_marks(plain);
-    if are_alike(marked, plain) {
-        say(b", else alike\n");
-        return;
-    }
-    say(b", else not alike\n");
+// The length of the marked packet, and how it differs from the plain one.
+pub(crate) fn show_both(rt: &impl Print, marked: &[u8], plain: &[u8]) -> io::Result<()> {
+    print!(rt; "  {}:", marked.len())?;
+    show_marks(rt, marked)?;
+    print!(rt; ",")?;
+    show_marks(rt, plain)?;
+    let alike = if are_alike(marked, plain) {
+        "alike"
+    } else {
+        "not alike"
+    };
+    println!(rt; ", else {alike}")
 }

@@ -1,9 +1,10 @@
 // Every call of a TCP flow, one after the other on the same flow; those that build no packet with an acknowledgment behind them.
 use crate::shown;
-use crate::shown::say;
 use ezpkt::part::{back, front};
 use ezpkt::{Marks, SocketAddrV4};
-use tcp4::{Sent, Seq, TcpFlow};
+use pkt::refusal::Refusal;
+use std::io;
+use tcp4::{Sent, Seq, Side, TcpFlow};
 
 // The flow after a call, and where up to three packets end: what there is not ends where the one before it does.
 #[derive(Clone, Copy, Drop)]
@@ -21,7 +22,45 @@ struct Flows {
     plain: TcpFlow,
 }
 
-fn ran_to(flow: TcpFlow, first: usize, second: usize, third: usize) -> Run {
+// A call: the opening, those on the numbers of both sides, and those that each side has.
+#[derive(Clone, Copy, Drop)]
+enum Call {
+    Open,
+    Push,
+    Pop,
+    Of(Side, Kind),
+}
+
+#[derive(Clone, Copy, Drop)]
+enum Kind {
+    Acknowledged,
+    Message,
+    Data,
+    Ack,
+    Hole,
+    Header,
+    Close,
+    Reset,
+}
+
+const KINDS: [Kind; 8] = [
+    Kind::Acknowledged,
+    Kind::Message,
+    Kind::Data,
+    Kind::Ack,
+    Kind::Hole,
+    Kind::Header,
+    Kind::Close,
+    Kind::Reset,
+];
+
+fn ran(flow: TcpFlow, sent: Result<Sent, Refusal>) -> Run {
+    let (flow, first, second, third) = match sent {
+        Ok(Sent::One(next, a)) => (next, a, a, a),
+        Ok(Sent::Two(next, a, b)) => (next, a, b, b),
+        Ok(Sent::Three(next, a, b, c)) => (next, a, b, c),
+        Err(_) => (flow, 0, 0, 0),
+    };
     Run {
         flow,
         first,
@@ -30,87 +69,65 @@ fn ran_to(flow: TcpFlow, first: usize, second: usize, third: usize) -> Run {
     }
 }
 
-fn ran(flow: TcpFlow, sent: Sent) -> Run {
-    match sent {
-        Sent::One(next, a) => ran_to(next, a, a, a),
-        Sent::Two(next, a, b) => ran_to(next, a, b, b),
-        Sent::Three(next, a, b, c) => ran_to(next, a, b, c),
-        Sent::Refused(_) => ran_to(flow, 0, 0, 0),
-    }
-}
-
-// Kinds 0 to 2: what has no side.
-fn by_flow(kind: u8, flow: TcpFlow, out: &mut [u8]) -> Sent {
-    if kind == 0 {
-        return flow.open(out);
-    }
-    if kind == 1 {
-        let pushed = flow.push_state(Seq::Is(9), Seq::Nothing);
-        let next = pushed.flow;
-        return next.client_ack(out);
-    }
-    flow.pop_state(Seq::Nothing, Seq::Is(70000)).client_ack(out)
-}
-
-// Kinds 3 to 10.
-fn by_client(kind: u8, flow: TcpFlow, out: &mut [u8]) -> Sent {
+fn by_client(kind: Kind, flow: TcpFlow, out: &mut [u8]) -> Result<Sent, Refusal> {
     match kind {
-        3 => flow.client_message(b"lap!", true, 0, out),
-        4 => flow.client_message(b"lap!", false, 0, out),
-        5 => flow.client_data_segment(b"lap!", out),
-        6 => flow.client_ack(out),
-        7 => flow.client_hole(7).client_ack(out),
-        8 => flow.client_hdr(7, 0).flow.client_ack(out),
-        9 => flow.client_close(out),
-        _ => flow.client_reset(out),
+        Kind::Acknowledged => flow.client_message(b"lap!", true, 0, out),
+        Kind::Message => flow.client_message(b"lap!", false, 0, out),
+        Kind::Data => flow.client_data_segment(b"lap!", out),
+        Kind::Ack => flow.client_ack(out),
+        Kind::Hole => flow.client_hole(7).client_ack(out),
+        Kind::Header => flow.client_hdr(7, 0).flow.client_ack(out),
+        Kind::Close => flow.client_close(out),
+        Kind::Reset => flow.client_reset(out),
     }
 }
 
-// Kinds 11 to 18.
-fn by_server(kind: u8, flow: TcpFlow, out: &mut [u8]) -> Sent {
+fn by_server(kind: Kind, flow: TcpFlow, out: &mut [u8]) -> Result<Sent, Refusal> {
     match kind {
-        11 => flow.server_message(b"lap!", true, 0, out),
-        12 => flow.server_message(b"lap!", false, 0, out),
-        13 => flow.server_data_segment(b"lap!", out),
-        14 => flow.server_ack(out),
-        15 => flow.server_hole(7).server_ack(out),
-        16 => flow.server_hdr(7, 0).flow.server_ack(out),
-        17 => flow.server_close(out),
-        _ => flow.server_reset(out),
+        Kind::Acknowledged => flow.server_message(b"lap!", true, 0, out),
+        Kind::Message => flow.server_message(b"lap!", false, 0, out),
+        Kind::Data => flow.server_data_segment(b"lap!", out),
+        Kind::Ack => flow.server_ack(out),
+        Kind::Hole => flow.server_hole(7).server_ack(out),
+        Kind::Header => flow.server_hdr(7, 0).flow.server_ack(out),
+        Kind::Close => flow.server_close(out),
+        Kind::Reset => flow.server_reset(out),
     }
 }
 
-fn call(kind: u8, flow: TcpFlow, out: &mut [u8]) -> Sent {
-    if kind < 3 {
-        return by_flow(kind, flow, out);
+fn made(call: Call, flow: TcpFlow, out: &mut [u8]) -> Result<Sent, Refusal> {
+    match call {
+        Call::Open => flow.open(out),
+        Call::Push => flow
+            .push_state(Seq::Is(9), Seq::Nothing)
+            .flow
+            .client_ack(out),
+        Call::Pop => flow.pop_state(Seq::Nothing, Seq::Is(70000)).client_ack(out),
+        Call::Of(Side::Client, kind) => by_client(kind, flow, out),
+        Call::Of(Side::Server, kind) => by_server(kind, flow, out),
     }
-    if kind < 11 {
-        return by_client(kind, flow, out);
-    }
-    by_server(kind, flow, out)
 }
 
-fn say_side(kind: u8) {
-    if kind > 10 {
-        say(b"TCP, the server's ");
-        return;
+fn side_name(call: Call) -> &'static str {
+    match call {
+        Call::Of(Side::Server, _) => "server",
+        _ => "client",
     }
-    say(b"TCP, the client's ");
 }
 
-fn say_kind(kind: u8) {
-    match kind {
-        0 => say(b"opening\n"),
-        1 => say(b"acknowledgment after push_state\n"),
-        2 => say(b"acknowledgment after pop_state\n"),
-        3 | 11 => say(b"message, acknowledged\n"),
-        4 | 12 => say(b"message\n"),
-        5 | 13 => say(b"data segment\n"),
-        6 | 14 => say(b"acknowledgment\n"),
-        7 | 15 => say(b"acknowledgment after a hole\n"),
-        8 | 16 => say(b"acknowledgment after a header\n"),
-        9 | 17 => say(b"close\n"),
-        _ => say(b"reset\n"),
+fn name(call: Call) -> &'static str {
+    match call {
+        Call::Open => "opening",
+        Call::Push => "acknowledgment after push_state",
+        Call::Pop => "acknowledgment after pop_state",
+        Call::Of(_, Kind::Acknowledged) => "message, acknowledged",
+        Call::Of(_, Kind::Message) => "message",
+        Call::Of(_, Kind::Data) => "data segment",
+        Call::Of(_, Kind::Ack) => "acknowledgment",
+        Call::Of(_, Kind::Hole) => "acknowledgment after a hole",
+        Call::Of(_, Kind::Header) => "acknowledgment after a header",
+        Call::Of(_, Kind::Close) => "close",
+        Call::Of(_, Kind::Reset) => "reset",
     }
 }
 
@@ -119,36 +136,48 @@ fn part(packets: &[u8], from: usize, to: usize) -> &[u8] {
     back(front(packets, to), from)
 }
 
-fn say_packets(a: &[u8], x: Run, b: &[u8], y: Run) {
-    shown::say_both(front(a, x.first), front(b, y.first));
+fn show_packets(rt: &impl Print, a: &[u8], x: Run, b: &[u8], y: Run) -> io::Result<()> {
+    shown::show_both(rt, front(a, x.first), front(b, y.first))?;
     if x.second > x.first {
-        shown::say_both(part(a, x.first, x.second), part(b, y.first, y.second));
+        let plain = part(b, y.first, y.second);
+        shown::show_both(rt, part(a, x.first, x.second), plain)?;
     }
     if x.third > x.second {
-        shown::say_both(part(a, x.second, x.third), part(b, y.second, y.third));
+        let plain = part(b, y.second, y.third);
+        shown::show_both(rt, part(a, x.second, x.third), plain)?;
     }
+    Ok(())
 }
 
-fn both(kind: u8, flows: Flows) -> Flows {
+fn both(rt: &impl Print, call: Call, flows: Flows) -> io::Result<Flows> {
     let mut a = [0u8; 120];
     let mut b = [0u8; 120];
-    let m = flows.marked;
-    let p = flows.plain;
-    let x = ran(m, call(kind, m, &mut a));
-    let y = ran(p, call(kind, p, &mut b));
-    say_side(kind);
-    say_kind(kind);
-    say_packets(&a, x, &b, y);
-    let marked = x.flow;
-    let plain = y.flow;
-    Flows { marked, plain }
+    let x = ran(flows.marked, made(call, flows.marked, &mut a));
+    let y = ran(flows.plain, made(call, flows.plain, &mut b));
+    println!(rt; "TCP, the {}'s {}", side_name(call), name(call))?;
+    show_packets(rt, &a, x, &b, y)?;
+    Ok(Flows {
+        marked: x.flow,
+        plain: y.flow,
+    })
 }
 
-pub(crate) fn calls(cl: SocketAddrV4, sv: SocketAddrV4, marks: Marks) {
+pub(crate) fn calls(
+    rt: &impl Print,
+    cl: SocketAddrV4,
+    sv: SocketAddrV4,
+    marks: Marks,
+) -> io::Result<()> {
     let plain = TcpFlow::new(cl, sv, 1000, 5000);
     let marked = plain.marked(marks);
     let mut flows = Flows { marked, plain };
-    for kind in 0..19 {
-        flows = both(kind, flows);
+    for call in [Call::Open, Call::Push, Call::Pop] {
+        flows = both(rt, call, flows)?;
     }
+    for side in [Side::Client, Side::Server] {
+        for kind in KINDS {
+            flows = both(rt, Call::Of(side, kind), flows)?;
+        }
+    }
+    Ok(())
 }

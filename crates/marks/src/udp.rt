@@ -1,44 +1,43 @@
 // Datagrams of a UDP flow.
 use crate::shown;
-use ezpkt::build::Built;
 use ezpkt::part::front;
-use ezpkt::udp4::{Choices, SrcIp, UdpFlow};
+use ezpkt::udp4::{Choices, UdpFlow};
 use ezpkt::{Marks, SocketAddrV4};
+use std::io;
 
-// How many bytes a datagram has, or 0.
-fn size(built: Built) -> usize {
-    match built {
-        Built::Packet(n) => n,
-        Built::Refused(_) => 0,
-    }
-}
-
-// A datagram from one of the two sides.
+// How many bytes a datagram from one of the two sides has, or 0.
 fn sent(client: bool, flow: UdpFlow, out: &mut [u8]) -> usize {
     let choices = Choices {
-        srcip: SrcIp::Own,
+        srcip: None,
         frag_off: 0,
         csum: true,
     };
-    if client {
-        return size(flow.client_dgram(b"lap!", choices, out));
-    }
-    size(flow.server_dgram(b"lap!", choices, out))
+    let built = if client {
+        flow.client_dgram(b"lap!", choices, out)
+    } else {
+        flow.server_dgram(b"lap!", choices, out)
+    };
+    built.unwrap_or(0)
 }
 
-fn both(client: bool, marked: UdpFlow, plain: UdpFlow) {
+fn both(rt: &impl Print, client: bool, marked: UdpFlow, plain: UdpFlow) -> io::Result<()> {
     let mut a = [0u8; 32];
     let mut b = [0u8; 32];
     let n = sent(client, marked, &mut a);
     let m = sent(client, plain, &mut b);
-    shown::say_both(front(&a, n), front(&b, m));
+    shown::show_both(rt, front(&a, n), front(&b, m))
 }
 
-pub(crate) fn calls(cl: SocketAddrV4, sv: SocketAddrV4, marks: Marks) {
+pub(crate) fn calls(
+    rt: &impl Print,
+    cl: SocketAddrV4,
+    sv: SocketAddrV4,
+    marks: Marks,
+) -> io::Result<()> {
     let plain = UdpFlow::new(cl, sv);
     let marked = plain.marked(marks);
-    shown::say(b"UDP, the client's datagram\n");
-    both(true, marked, plain);
-    shown::say(b"UDP, the server's datagram\n");
-    both(false, marked, plain);
+    println!(rt; "UDP, the client's datagram")?;
+    both(rt, true, marked, plain)?;
+    println!(rt; "UDP, the server's datagram")?;
+    both(rt, false, marked, plain)
 }

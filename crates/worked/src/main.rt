@@ -2,130 +2,112 @@
 // library answers.
 #![tactic(auto)]
 
-use ezpkt::build::{Built, Request, TcpSegment, UdpDatagram};
+use ezpkt::build::{Request, TcpSegment, UdpDatagram};
 use ezpkt::ip4::Template;
 use ezpkt::{Marks, SocketAddrV4, build, ip4};
 use pkt::ipv4;
-use pkt::ipv4::{Sum, ip_hdr, tcp_hdr, udp_hdr};
+use pkt::ipv4::{ip_hdr, tcp_hdr, udp_hdr};
+use pkt::refusal::Refusal;
+use std::io;
 use tcp4::{Sent, Seq, TcpFlow};
-
-const STDOUT_FILENO: i32 = 1;
 
 const CLIENT: u32 = 0x0a000001;
 
 const SERVER: u32 = 0x0a000002;
 
-fn say(words: &[u8]) {
-    io::write_all(STDOUT_FILENO, words);
+fn show_refused(rt: &impl Print, refusal: Refusal) -> io::Result<()> {
+    println!(rt; " refused {}", refusal.number())
 }
 
-fn say_sum(sum: Sum) {
+fn show_sum(rt: &impl Print, what: &str, sum: Result<u16, Refusal>) -> io::Result<()> {
+    print!(rt; "{what}:")?;
     match sum {
-        Sum::Is(c) => {
-            say(b" ");
-            io::print_hex(STDOUT_FILENO, c as u64, 4);
-        }
-        Sum::Refused(number) => say_refused(number),
+        Ok(csum) => println!(rt; " {csum:04x}"),
+        Err(refusal) => show_refused(rt, refusal),
     }
-    say(b"\n");
 }
 
-fn say_byte(b: u8) {
-    say(b" ");
-    io::print_hex(STDOUT_FILENO, b as u64, 2);
-}
-
-fn say_bytes(bytes: &[u8]) {
-    for i in 0..bytes.len() {
-        say_byte(bytes[i]);
+fn show_bytes(rt: &impl Print, bytes: &[u8]) -> io::Result<()> {
+    for byte in bytes {
+        print!(rt; " {byte:02x}")?;
     }
-    say(b"\n");
+    println!(rt; "")
 }
 
-fn checksums() {
-    say(b"checksum of nothing:");
-    say_sum(ipv4::ip_csum(b""));
-    say(b"checksum of 01:");
-    say_sum(ipv4::ip_csum(b"\x01"));
-    say(b"checksum of ff ff:");
-    say_sum(ipv4::ip_csum(b"\xff\xff"));
+fn checksums(rt: &impl Print) -> io::Result<()> {
     let long = [0u8; 65536];
-    say(b"checksum of 65,536 bytes:");
-    say_sum(ipv4::ip_csum(&long));
-    say(b"checksum of 65,535 bytes:");
-    say_sum(ipv4::ip_csum(&long[0..65535]));
+    show_sum(rt, "checksum of nothing", ipv4::ip_csum(b""))?;
+    show_sum(rt, "checksum of 01", ipv4::ip_csum(b"\x01"))?;
+    show_sum(rt, "checksum of ff ff", ipv4::ip_csum(b"\xff\xff"))?;
+    show_sum(rt, "checksum of 65,536 bytes", ipv4::ip_csum(&long))?;
+    show_sum(
+        rt,
+        "checksum of 65,535 bytes",
+        ipv4::ip_csum(&long[0..65535]),
+    )
 }
 
-fn syn() {
-    let mut ip = ip_hdr::default();
-    ip.tot_len = 40;
-    ip.protocol = ipv4::proto::TCP;
-    ip.saddr = CLIENT;
-    ip.daddr = SERVER;
-    let mut tcp = tcp_hdr::new(40000, 80);
-    tcp.seq = 1000;
-    tcp.flags = ipv4::TCP_SYN;
-    say(b"SYN, IPv4 header:");
-    let header = ip.to_bytes();
-    say_bytes(&header);
-    say(b"SYN, TCP checksum:");
-    say_sum(ipv4::tcp_csum(CLIENT, SERVER, tcp, b""));
+fn syn(rt: &impl Print) -> io::Result<()> {
+    let ip = ip_hdr {
+        tot_len: 40,
+        protocol: ipv4::proto::TCP,
+        saddr: CLIENT,
+        daddr: SERVER,
+        ..ip_hdr::default()
+    };
+    let tcp = tcp_hdr {
+        seq: 1000,
+        flags: ipv4::TCP_SYN,
+        ..tcp_hdr::new(40000, 80)
+    };
+    print!(rt; "SYN, IPv4 header:")?;
+    show_bytes(rt, &ip.to_bytes())?;
+    show_sum(
+        rt,
+        "SYN, TCP checksum",
+        ipv4::tcp_csum(CLIENT, SERVER, tcp, b""),
+    )
 }
 
-fn udp_ones() {
+fn udp_ones(rt: &impl Print) -> io::Result<()> {
     let udp = udp_hdr {
         sport: 1,
         dport: 2,
         len: 10,
     };
-    say(b"UDP with payload eb d4, checksum:");
-    say_sum(ipv4::udp_csum(CLIENT, SERVER, udp, b"\xeb\xd4"));
+    let sum = ipv4::udp_csum(CLIENT, SERVER, udp, b"\xeb\xd4");
+    show_sum(rt, "UDP with payload eb d4, checksum", sum)
 }
 
-fn say_number(n: usize) {
-    say(b" ");
-    io::print_decimal(STDOUT_FILENO, n as u64);
-}
-
-fn say_refused(number: u8) {
-    say(b" refused ");
-    io::print_decimal(STDOUT_FILENO, number as u64);
-}
-
-fn say_built(built: Built) {
+fn show_built(rt: &impl Print, built: Result<usize, Refusal>) -> io::Result<()> {
     match built {
-        Built::Packet(n) => say_number(n),
-        Built::Refused(number) => say_refused(number),
+        Ok(size) => println!(rt; " {size}"),
+        Err(refusal) => show_refused(rt, refusal),
     }
-    say(b"\n");
 }
 
-fn say_flow(flow: TcpFlow) {
-    say(b", then");
-    say_number(flow.cl_seq as usize);
-    say_number(flow.sv_seq as usize);
+fn show_flow(rt: &impl Print, flow: TcpFlow) -> io::Result<()> {
+    print!(rt; ", then {} {}", flow.cl_seq, flow.sv_seq)
 }
 
-fn say_sent(sent: Sent) {
-    match sent {
-        Sent::One(flow, a) => {
-            say_number(a);
-            say_flow(flow);
+fn show_sent(rt: &impl Print, sent: Result<Sent, Refusal>) -> io::Result<()> {
+    let flow = match sent {
+        Ok(Sent::One(flow, a)) => {
+            print!(rt; " {a}")?;
+            flow
         }
-        Sent::Two(flow, a, b) => {
-            say_number(a);
-            say_number(b);
-            say_flow(flow);
+        Ok(Sent::Two(flow, a, b)) => {
+            print!(rt; " {a} {b}")?;
+            flow
         }
-        Sent::Three(flow, a, b, c) => {
-            say_number(a);
-            say_number(b);
-            say_number(c);
-            say_flow(flow);
+        Ok(Sent::Three(flow, a, b, c)) => {
+            print!(rt; " {a} {b} {c}")?;
+            flow
         }
-        Sent::Refused(number) => say_refused(number),
-    }
-    say(b"\n");
+        Err(refusal) => return show_refused(rt, refusal),
+    };
+    show_flow(rt, flow)?;
+    println!(rt; "")
 }
 
 fn flow_at(cl_seq: u32, sv_seq: u32) -> TcpFlow {
@@ -154,23 +136,23 @@ fn syn_request() -> Request {
     })
 }
 
-fn data_segment(payload: &[u8]) {
+fn data_segment(rt: &impl Print, payload: &[u8]) -> io::Result<()> {
     let mut out = [0u8; 65536];
-    say_sent(flow_at(0, 0).client_data_segment(payload, &mut out));
+    show_sent(rt, flow_at(0, 0).client_data_segment(payload, &mut out))
 }
 
-fn tcp_limits() {
+fn tcp_limits(rt: &impl Print) -> io::Result<()> {
     let payload = [0u8; 65496];
-    say(b"TCP payload of 65,495 bytes:");
-    data_segment(&payload[0..65495]);
-    say(b"TCP payload of 65,496 bytes:");
-    data_segment(&payload);
+    print!(rt; "TCP payload of 65,495 bytes:")?;
+    data_segment(rt, &payload[0..65495])?;
+    print!(rt; "TCP payload of 65,496 bytes:")?;
+    data_segment(rt, &payload)?;
     let mut short = [0u8; 39];
-    say(b"SYN into 39 bytes:");
-    say_built(build::build(syn_request(), b"", &mut short));
+    print!(rt; "SYN into 39 bytes:")?;
+    show_built(rt, build::build(syn_request(), b"", &mut short))?;
     let mut enough = [0u8; 40];
-    say(b"SYN into 40 bytes:");
-    say_built(build::build(syn_request(), b"", &mut enough));
+    print!(rt; "SYN into 40 bytes:")?;
+    show_built(rt, build::build(syn_request(), b"", &mut enough))
 }
 
 fn udp_request(csum: bool) -> Request {
@@ -186,71 +168,54 @@ fn udp_request(csum: bool) -> Request {
 }
 
 // What is true of all three, and whether a checksum is asked for.
-fn udp_limits(words: &[u8], csum: bool) {
+fn udp_limits(rt: &impl Print, words: &str, csum: bool) -> io::Result<()> {
     let payload = [0u8; 65508];
     let mut out = [0u8; 30];
-    say(words);
-    say(b", 2 bytes:");
-    say_built(build::build(udp_request(csum), b"\xeb\xd4", &mut out));
-    say(words);
-    say(b", 65,508 bytes:");
-    say_built(build::build(udp_request(csum), &payload, &mut out));
-    say(words);
-    say(b", 2 bytes into 29:");
-    say_built(build::build(udp_request(csum), b"\xeb\xd4", &mut out[0..29]));
+    let request = udp_request(csum);
+    print!(rt; "{words}, 2 bytes:")?;
+    show_built(rt, build::build(request, b"\xeb\xd4", &mut out))?;
+    print!(rt; "{words}, 65,508 bytes:")?;
+    show_built(rt, build::build(request, &payload, &mut out))?;
+    print!(rt; "{words}, 2 bytes into 29:")?;
+    show_built(rt, build::build(request, b"\xeb\xd4", &mut out[0..29]))
 }
 
-fn say_numbers(packets: &[u8]) {
-    if packets.len() < 112 {
-        return;
-    }
-    say(b"its sequence and acknowledgment numbers:\n");
-    say_bytes(&packets[24..32]);
-    say_bytes(&packets[64..72]);
-    say_bytes(&packets[104..112]);
-}
-
-fn opened() {
+fn opened(rt: &impl Print) -> io::Result<()> {
     let mut out = [0u8; 120];
-    say(b"open at 1000 and 5000:");
-    say_sent(flow_at(1000, 5000).open(&mut out));
-    say_numbers(&out);
+    print!(rt; "open at 1000 and 5000:")?;
+    show_sent(rt, flow_at(1000, 5000).open(&mut out))?;
+    println!(rt; "its sequence and acknowledgment numbers:")?;
+    show_bytes(rt, &out[24..32])?;
+    show_bytes(rt, &out[64..72])?;
+    show_bytes(rt, &out[104..112])
 }
 
-fn message(send_ack: bool) {
+fn message(rt: &impl Print, send_ack: bool) -> io::Result<()> {
     let mut out = [0u8; 83];
-    say_sent(flow_at(4294967294, 0).client_message(b"lap!", send_ack, 0, &mut out));
+    show_sent(
+        rt,
+        flow_at(4294967294, 0).client_message(b"lap!", send_ack, 0, &mut out),
+    )
 }
 
-fn state() {
-    say(b"state pushed, and popped:");
+fn state(rt: &impl Print) -> io::Result<()> {
     let pushed = flow_at(7, 8).push_state(Seq::Is(9), Seq::Nothing);
-    let flow = pushed.flow;
-    let cl = pushed.cl;
-    let sv = pushed.sv;
-    say_flow(flow);
-    say_flow(flow.pop_state(cl, sv));
-    say(b"\n");
+    print!(rt; "state pushed, and popped:")?;
+    show_flow(rt, pushed.flow)?;
+    show_flow(rt, pushed.flow.pop_state(pushed.cl, pushed.sv))?;
+    println!(rt; "")
 }
 
-fn flows() {
-    opened();
-    say(b"4 bytes sent at 4,294,967,294:");
-    message(false);
-    say(b"the same with an acknowledgment, into 83 bytes:");
-    message(true);
-    state();
+fn flows(rt: &impl Print) -> io::Result<()> {
+    opened(rt)?;
+    print!(rt; "4 bytes sent at 4,294,967,294:")?;
+    message(rt, false)?;
+    print!(rt; "the same with an acknowledgment, into 83 bytes:")?;
+    message(rt, true)?;
+    state(rt)
 }
 
-fn say_field(packet: &[u8]) {
-    if packet.len() < 8 {
-        return;
-    }
-    say(b"field:");
-    say_bytes(&packet[6..8]);
-}
-
-fn piece(off: u16, len: u16) {
+fn piece(rt: &impl Print, off: u16, len: u16) -> io::Result<()> {
     let template = Template {
         tos: 0,
         id: 0,
@@ -262,22 +227,26 @@ fn piece(off: u16, len: u16) {
         daddr: SERVER,
     };
     let mut out = [0u8; 40];
-    say(b"piece of 20 bytes:");
-    say_built(ip4::fragment(template, b"01234567890123456789", off, len, &mut out));
-    say_field(&out);
+    print!(rt; "piece of 20 bytes:")?;
+    show_built(
+        rt,
+        ip4::fragment(template, b"01234567890123456789", off, len, &mut out),
+    )?;
+    print!(rt; "field:")?;
+    show_bytes(rt, &out[6..8])
 }
 
-fn main() {
-    checksums();
-    syn();
-    udp_ones();
-    tcp_limits();
-    udp_limits(b"UDP with checksum", true);
-    udp_limits(b"UDP without checksum", false);
-    flows();
-    piece(0, 1);
-    piece(2, 1);
-    piece(2, 0);
-    piece(3, 1);
-    piece(8192, 1);
+fn main(rt: HostRuntime) -> io::Result<()> {
+    checksums(&rt)?;
+    syn(&rt)?;
+    udp_ones(&rt)?;
+    tcp_limits(&rt)?;
+    udp_limits(&rt, "UDP with checksum", true)?;
+    udp_limits(&rt, "UDP without checksum", false)?;
+    flows(&rt)?;
+    piece(&rt, 0, 1)?;
+    piece(&rt, 2, 1)?;
+    piece(&rt, 2, 0)?;
+    piece(&rt, 3, 1)?;
+    piece(&rt, 8192, 1)
 }
