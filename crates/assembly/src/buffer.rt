@@ -11,10 +11,8 @@ pub(crate) fn fill(b: &mut [u8], from: usize, to: usize, v: u8)
     requires to_in_bounds { to ≤ length b.old }
     ensures { b.new ≡ sets b.old from (replicate (to - from) v) }
 {
-    let mut i = from;
-    while i < to {
+    for i in from..to {
         b[i] = v;
-        i += 1;
     }
 }
 

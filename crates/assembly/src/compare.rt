@@ -1,15 +1,9 @@
 // The data of a piece against what is held, block by block.
-ghost use Rattle.std.specs.Prelude.{◌≡◌, ◌+◌, ◌*◌, ◌≤◌, ◌<◌, min, length, take, drop};
+ghost use Rattle.std.specs.Prelude.{◌≡◌, ◌+◌, ◌*◌, ◌≤◌, ◌<◌, length, take, drop};
 ghost use Rattle.assembly.specs.Assembly.{byte_clash};
 ghost use Rattle.assembly.specs.Search.{onward, unlike};
 
 use crate::map;
-
-fn least(a: usize, b: usize) -> usize
-    ensures { result ≡ min a b }
-{
-    if a < b { a } else { b }
-}
 
 // Whether one of the (up to) eight bytes of body from place `from` differs from the byte at its place.
 fn block_differs(payload: &[u8], at: usize, body: &[u8], from: usize) -> bool
@@ -17,13 +11,11 @@ fn block_differs(payload: &[u8], at: usize, body: &[u8], from: usize) -> bool
     requires body_in_bounds { at + length body.now ≤ length payload.now }
     ensures { result ≡ unlike payload.now (at + from) (take 8 (drop from body.now)) }
 {
-    let to = least(from + 8, body.len());
-    let mut j = from;
-    while j < to {
+    let to = (from + 8).min(body.len());
+    for j in from..to {
         if payload[at + j] != body[j] {
             return true;
         }
-        j += 1;
     }
     false
 }
@@ -41,7 +33,7 @@ fn stride(map: &[u8], k: usize) -> usize
 }
 
 // Whether body, at block off, differs from what is held in a marked block. A block that is not marked is passed over whole,
-// and so are the blocks of a byte of the map in which none is marked.
+// and so are the blocks of a byte of the map in which none is marked. A `while`, since no range has steps of different lengths.
 pub(crate) fn differs(payload: &[u8], map: &[u8], off: usize, body: &[u8]) -> bool
     requires body_in_bounds { 8 * off + length body.now ≤ length payload.now }
     requires payload_len_bound { length payload.now ≤ 64 * length map.now }

@@ -26,11 +26,8 @@ fn mark_each(map: &mut [u8], from: usize, to: usize)
     requires to_bound { to ≤ 8 * length map.old }
     ensures { map.new ≡ mark map.old from (to - from) }
 {
-    let mut k = from;
-    while k < to {
-        let b = k / 8;
-        map[b] = map[b] | mask(k);
-        k += 1;
+    for k in from..to {
+        map[k / 8] |= mask(k);
     }
 }
 
@@ -57,12 +54,10 @@ fn bytes_full(map: &[u8], n: usize) -> bool
     requires { n ≤ length map.now }
     ensures { result ≡ marked map.now (8 * n) }
 {
-    let mut i: usize = 0;
-    while i < n {
+    for i in 0..n {
         if map[i] != 255 {
             return false;
         }
-        i += 1;
     }
     true
 }
@@ -74,12 +69,10 @@ fn rest_marked(map: &[u8], from: usize, n: usize) -> bool
     requires from_value { marked map.now from ≡ true }
     ensures { result ≡ marked map.now n }
 {
-    let mut k = from;
-    while k < n {
+    for k in from..n {
         if !is_marked(map, k) {
             return false;
         }
-        k += 1;
     }
     true
 }

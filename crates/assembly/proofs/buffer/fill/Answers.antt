@@ -5,7 +5,7 @@ use Rattle.assembly.proofs.Bytes.{fill_left, fill_done}
 use Rattle.assembly.proofs.buffer.fill.Goals as goal
 
 pub loop-i-preserved : goal.loop-i-preserved
-loop-i-preserved c = (search rules, search rules, search rules, sym (fill_left _ _ _ _ c.loop-i-test.true) ∙ c.loop-i.invariant.3)
+loop-i-preserved c = (search rules, sym (fill_left _ _ _ _ c.loop-i-test.true) ∙ c.loop-i.invariant.1)
 
 pub returns : goal.returns
-returns c = sym (fill_done _ _ _ _ c.loop-i-test.false) ∙ c.loop-i.invariant.3
+returns c = sym (fill_done _ _ _ _ c.loop-i-test.false) ∙ c.loop-i.invariant.1

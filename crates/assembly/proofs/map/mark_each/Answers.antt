@@ -7,7 +7,7 @@ use Rattle.assembly.proofs.map.mark_each.Goals as goal
 
 pub loop-k-preserved : goal.loop-k-preserved
 unfolding set_bit
-loop-k-preserved c = (search rules, search rules, search rules, rw c.mask.ensures (sym (mark_left _ _ _ c.loop-k-test.true) ∙ c.loop-k.invariant.3))
+loop-k-preserved c = (search rules, rw c.mask.ensures (sym (mark_left _ _ _ c.loop-k-test.true) ∙ c.loop-k.invariant.1))
 
 pub returns : goal.returns
-returns c = sym (mark_done _ _ _ c.loop-k-test.false) ∙ c.loop-k.invariant.3
+returns c = sym (mark_done _ _ _ c.loop-k-test.false) ∙ c.loop-k.invariant.1

@@ -1,12 +1,9 @@
 -- The marking that is left, from where the loop stands, is the whole marking.
-use Prim.Native.Nat.{◌-◌, ◌≤◌}
+use Prim.Native.Nat.{◌-◌}
 use lib.ListN.{length}
 use mathlib.Core.Path.{◌≡◌}
 use Rattle.assembly.specs.Map.{mark}
 use Rattle.assembly.proofs.map.mark_each.Given as goal
 
 abbrev pub invariant-loop-k : goal.invariant-loop-k
-invariant-loop-k l = (l.from ≤ l.k) × (l.k ≤ l.to) × (length l.map ≡ length l.initial.map) × (mark l.map l.k (l.to - l.k) ≡ mark l.initial.map l.from (l.to - l.from))
-
-abbrev pub decreases-loop-k : goal.decreases-loop-k
-decreases-loop-k l = l.to - l.k
+invariant-loop-k l = (length l.map ≡ length l.initial.map) × (mark l.map l.k (l.to - l.k) ≡ mark l.initial.map l.from (l.to - l.from))
