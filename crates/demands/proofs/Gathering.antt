@@ -7,7 +7,7 @@ use mathlib.Core.List.{List, [], ◌∷◌, append-nil, Memᴰ}
 use Prim.Native.Nat.{ℕ, ◌≤◌, ◌<◌}
 use native.Mathlib.Omega.{arith}
 use lib.ListN.{length, take}
-use Rattle.pkt.specs.Answers.{Answer, gives, mapped}
+use Rattle.pkt.specs.Answers.{Answer, gives, mapped, says}
 use Rattle.pkt.proofs.Choice.{pick_yes}
 use Rattle.ezpkt.specs.declared.ip4.Template.{Template}
 use Rattle.assembly.specs.declared.Rec.{Rec}

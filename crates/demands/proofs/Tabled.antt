@@ -8,13 +8,14 @@ use Prim.Native.Nat.{ℕ, ◌≤◌, ◌<◌}
 use native.Mathlib.Omega.{arith}
 use lib.ListN.{length}
 use borrow.Author.Tests.{le-ltb}
-use Rattle.pkt.specs.Answers.{Answer, refused, gives, mapped, fitting}
+use Rattle.pkt.specs.Answers.{Answer, refused, gives, mapped, fitting, says}
 use Rattle.pkt.specs.Written.{written}
 use Rattle.pkt.proofs.Choice.{pick_yes, pick_no}
 use Rattle.ezpkt.specs.declared.ip4.Template.{Template}
 use Rattle.assembly.specs.declared.Key.{Key}
 use Rattle.assembly.specs.Piece.{Piece}
-use Rattle.assembly.specs.Assembly.{State, Outcome, outcome, opened, run, complete, held_bytes}
+use Rattle.assembly.specs.declared.Outcome.{Outcome}
+use Rattle.assembly.specs.Assembly.{State, outcome, opened, run, complete, held_bytes}
 use Rattle.assembly.specs.Cut.{requested}
 use Rattle.assembly.specs.Packets.{take_all, Accepted}
 use Rattle.assembly.proofs.Delivers as handed

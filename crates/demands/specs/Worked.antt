@@ -11,7 +11,8 @@ use Rattle.ezpkt.specs.declared.build.Request.TheVariants.{Tcp, Udp}
 use Rattle.tcp4.specs.declared.TcpFlow.{TcpFlow}
 use Rattle.tcp4.specs.declared.Side.TheVariants.{Client}
 use Rattle.inspect.specs.Header.{field_at}
-use Rattle.assembly.specs.Assembly.{opened, outcome, is_complete}
+use Rattle.assembly.specs.Assembly.{opened, outcome}
+use Rattle.assembly.specs.declared.Outcome.TheVariants.{Complete}
 use Rattle.assembly.specs.Cut.{twenty}
 use Rattle.assembly.specs.Calls.{capacity, map_bytes, take_answer}
 use Rattle.demands.specs.Assembling.{template_key}
@@ -100,5 +101,5 @@ cases =
     ∷ case (field_and_data (piece_at twenty 3 1)) (0x0003 ∷ 0 ∷ [])
     -- "n = 0, (0,0): field 0000, complete at once"
     ∷ case (field_and_data (piece_at [] 0 0)) (0x0000 ∷ 0 ∷ [])
-    ∷ case (mapped outcome (take_answer capacity map_bytes (opened (template_key template) capacity map_bytes) (piece_at [] 0 0))) (gives is_complete)
+    ∷ case (mapped outcome (take_answer capacity map_bytes (opened (template_key template) capacity map_bytes) (piece_at [] 0 0))) (gives Complete)
     ∷ []
