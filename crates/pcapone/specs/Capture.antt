@@ -1,5 +1,5 @@
 -- What the program writes: document 01, 'Hex dump and capture'.
-use Rattle.std.specs.Prelude.{ℕ, ◌+◌, ◌≡◌, Bool, ◌||◌, cond, List, [], ◌∷◌, length, ltb}
+use Rattle.std.specs.Prelude.{ℕ, ◌+◌, ◌≡◌, Bool, ◌||◌, cond, List, [], ◌∷◌, length, ltb, Option, Some, None}
 use Rattle.pkt.specs.Written.{written}
 use Rattle.pcap.specs.Pcap.{capture_bytes}
 use Rattle.ezpkt.specs.Build.{packet_of}
@@ -21,9 +21,13 @@ no_output n room = ltb 4096 n || ltb room (68 + n)
 abbrev pub output_for : List ℕ → ℕ → List ℕ
 output_for p room = cond (no_output (length p) room) [] (file_of (first_echo p))
 
--- The whole promise, for an input p and a buffer o: the answer is how many bytes the output has, and it stands at the buffer's start.
-pub record Captures (p o : List ℕ) (r : ℕ) (o' : List ℕ) : Type 0 where
-  pub answer : r ≡ length (output_for p (length o))
+-- how many bytes those are, if it is written
+abbrev pub size_for : List ℕ → ℕ → Option ℕ
+size_for p room = cond (no_output (length p) room) None (Some (length (output_for p room)))
+
+-- The whole promise, for an input p and a buffer o: the answer is how many bytes the output has, if there is one, and it stands at the buffer's start.
+pub record Captures (p o : List ℕ) (r : Option ℕ) (o' : List ℕ) : Type 0 where
+  pub answer : r ≡ size_for p (length o)
   pub after : o' ≡ written (output_for p (length o)) o
 
 -- "For the input `lap!`, 72 bytes"

@@ -15,26 +15,27 @@ fn put_file(packet: &[u8], out: &mut [u8])
     requires { (length packet.now ≤ most_bytes) × (40 + length packet.now ≤ length out.old) }
     ensures { out.new ≡ written (file_of packet.now) out.old }
 {
-    pcap::write_header(out);
-    pcap::write_record(0, 0, packet, &mut out[24..]);
+    // both fit, and are not refused
+    let _ = pcap::write_header(out);
+    let _ = pcap::write_record(0, 0, packet, &mut out[24..]);
 }
 
 // The program's output for this input at the start of out, and how many bytes it has: none for more than 4,096 bytes of input, or where there is
 // no room for the capture.
-pub fn capture(input: &[u8], out: &mut [u8]) -> usize
+pub fn capture(input: &[u8], out: &mut [u8]) -> Option<usize>
     ensures { Captures input.now out.old result out.new }
 {
     let n = input.len();
     if n > 4096 {
-        return 0;
+        return None;
     }
     let size = 68 + n;
     if out.len() < size {
-        return 0;
+        return None;
     }
     let mut packet = [0u8; 4124];
-    IcmpFlow::new(CLIENT, SERVER).echo(input, &mut packet);
+    let _ = IcmpFlow::new(CLIENT, SERVER).echo(input, &mut packet); // it fits, too
     let end = 28 + n;
     put_file(&packet[0..end], out);
-    size
+    Some(size)
 }

@@ -3,20 +3,15 @@
 
 mod capture;
 
-const STDERR_FILENO: i32 = 2;
+use std::io;
+use std::io::{Read, Write};
 
-const STDIN_FILENO: i32 = 0;
-
-const STDOUT_FILENO: i32 = 1;
-
-fn main() {
-    let mut input = [0u8; 4097];
+fn main(rt: HostRuntime) -> io::Result<()> {
+    let mut input = Vec::new(rt.alloc());
+    rt.reader().take(4097).read_to_end(&mut input)?;
     let mut out = [0u8; 4164];
-    let n = io::read_full(STDIN_FILENO, &mut input);
-    let size = capture::capture(&input[0..n], &mut out);
-    if size == 0 {
-        io::write_all(STDERR_FILENO, b"pcapone: more than 4,096 bytes of input\n");
-        return;
+    match capture::capture(&input, &mut out) {
+        Some(size) => io::writer(&rt).write_all(&out[..size]),
+        None => eprintln!(rt; "pcapone: more than 4,096 bytes of input"),
     }
-    io::write_all(STDOUT_FILENO, &out[0..size]);
 }

@@ -1,110 +1,64 @@
 // One word, or the odd last byte, at every number.
 use crate::shown;
-use crate::shown::Run;
+use crate::shown::{Answer, Run};
+use ezpkt::part::back;
 use inspect::check;
+use std::io;
 
-// Byte i, and 0 past the end.
-fn byte_at(packet: &[u8], i: usize) -> u8 {
-    if i < packet.len() {
-        return packet[i];
-    }
-    0
-}
-
-fn put_byte(packet: &mut [u8], i: usize, b: u8) {
-    if i < packet.len() {
-        packet[i] = b;
+// The word at a place, or the odd last byte.
+fn number_at(packet: &[u8], place: usize) -> u16 {
+    match back(packet, place) {
+        [high, low, ..] => u16::from_be_bytes([*high, *low]),
+        [last] => u16::from(*last),
+        [] => 0,
     }
 }
 
-// The word at a place.
-fn word_at(packet: &[u8], place: u8) -> u16 {
-    let i = place as usize;
-    byte_at(packet, i) as u16 * 256 + byte_at(packet, i + 1) as u16
+fn put(packet: &mut [u8], place: usize, x: u16) {
+    let [high, low] = x.to_be_bytes();
+    let end = packet.len();
+    match &mut packet[place.min(end)..] {
+        [a, b, ..] => {
+            *a = high;
+            *b = low;
+        }
+        [last] => *last = low,
+        [] => {}
+    }
 }
 
-fn put_word(packet: &mut [u8], place: u8, x: u16) {
-    let i = place as usize;
-    put_byte(packet, i, (x / 256) as u8);
-    put_byte(packet, i + 1, (x % 256) as u8);
+// What the check answers with a number there.
+fn answer_with(packet: &mut [u8], place: usize, x: u16) -> Answer {
+    put(packet, place, x);
+    check::check(packet)
 }
 
-// What the check answers with a number for the word at a place.
-fn with_word(packet: &mut [u8], place: u8, x: u16) -> u8 {
-    put_word(packet, place, x);
-    shown::number(check::check(packet))
-}
-
-// .. and with one for the byte at a place.
-fn with_byte(packet: &mut [u8], place: u8, b: u8) -> u8 {
-    put_byte(packet, place as usize, b);
-    shown::number(check::check(packet))
-}
-
-// The run that begins with 0, and has no other number yet.
-fn started(answer: u8) -> Run {
-    Run {
+// A line for the word at a place, or for the odd last byte.
+fn line(rt: &impl Print, packet: &mut [u8], place: usize) -> io::Result<()> {
+    let (most, digits) = if back(packet, place).len() > 1 {
+        (0xffff, 4)
+    } else {
+        (0xff, 2)
+    };
+    let was = number_at(packet, place);
+    print!(rt; "  at {place}, {was:0digits$x}:")?;
+    let mut run = Run {
         first: 0,
         last: 0,
-        answer,
+        answer: answer_with(packet, place, 0),
+    };
+    for x in 1..=most {
+        run = shown::next(rt, run, x, answer_with(packet, place, x), digits)?;
     }
+    shown::show_run(rt, run, digits)?;
+    put(packet, place, was);
+    println!(rt; "")
 }
 
-// The word at a place at every number but 0, behind the run of that. The last run is still to be said, and the word is the largest.
-fn words(packet: &mut [u8], place: u8, zero: Run) -> Run {
-    let mut run = zero;
-    for x in 1..=65535 {
-        run = shown::next(run, x, with_word(packet, place, x), 4);
+// A line for each word from a place on.
+pub(crate) fn each(rt: &impl Print, packet: &mut [u8], from: usize) -> io::Result<()> {
+    for place in (from..packet.len()).step_by(2) {
+        line(rt, packet, place)?;
     }
-    run
-}
-
-// .. and the byte.
-fn bytes(packet: &mut [u8], place: u8, zero: Run) -> Run {
-    let mut run = zero;
-    for b in 1..=255 {
-        run = shown::next(run, b as u16, with_byte(packet, place, b), 2);
-    }
-    run
-}
-
-// A line for the word at a place.
-fn word(packet: &mut [u8], place: u8) {
-    let was = word_at(packet, place);
-    shown::say_place(place, was, 4);
-    let zero = started(with_word(packet, place, 0));
-    let run = words(packet, place, zero);
-    shown::say_run(run, 4);
-    put_word(packet, place, was);
-    shown::say(b"\n");
-}
-
-// A line for the odd last byte.
-fn last(packet: &mut [u8], place: u8) {
-    let was = byte_at(packet, place as usize);
-    shown::say_place(place, was as u16, 2);
-    let zero = started(with_byte(packet, place, 0));
-    let run = bytes(packet, place, zero);
-    shown::say_run(run, 2);
-    put_byte(packet, place as usize, was);
-    shown::say(b"\n");
-}
-
-// Two places have one word.
-fn place(packet: &mut [u8], place: u8) {
-    if place % 2 == 1 {
-        return;
-    }
-    if place as usize + 1 < packet.len() {
-        word(packet, place);
-    } else {
-        last(packet, place);
-    }
-}
-
-// Every place up to another.
-pub(crate) fn each(packet: &mut [u8], from: u8, to: u8) {
-    for i in from..to {
-        place(packet, i);
-    }
+    Ok(())
 }

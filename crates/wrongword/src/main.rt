@@ -7,7 +7,7 @@ mod shown;
 
 use ezpkt::build::{IcmpEcho, Request, TcpSegment, UdpDatagram};
 use ezpkt::{Marks, build};
-use shown::say;
+use std::io;
 
 const CAR: u32 = 0x0a000001;
 
@@ -19,14 +19,20 @@ const MARKS: Marks = Marks { tos: 16, ttl: 1 };
 const PAYLOAD: [u8; 9] = *b"\x00\x00\xff\xfflap 7";
 
 // Builds what is asked for, and changes each of its words from a place on.
-fn show(words: &[u8], req: Request, packet: &mut [u8], from: u8, to: u8) {
-    build::build(req, &PAYLOAD, packet);
-    say(words);
-    change::each(packet, from, to);
+fn show(
+    rt: &impl Print,
+    what: &str,
+    req: Request,
+    packet: &mut [u8],
+    from: usize,
+) -> io::Result<()> {
+    let _ = build::build(req, &PAYLOAD, packet);
+    println!(rt; "{what}")?;
+    change::each(rt, packet, from)
 }
 
 // A segment, with its header.
-fn tcp() {
+fn tcp(rt: &impl Print) -> io::Result<()> {
     let mut packet = [0u8; 49];
     let segment = TcpSegment {
         saddr: CAR,
@@ -39,10 +45,10 @@ fn tcp() {
         frag_off: 0,
         marks: MARKS,
     };
-    show(b"TCP\n", Request::Tcp(segment), &mut packet, 0, 49);
+    show(rt, "TCP", Request::Tcp(segment), &mut packet, 0)
 }
 
-fn udp() {
+fn udp(rt: &impl Print) -> io::Result<()> {
     let mut packet = [0u8; 37];
     let datagram = UdpDatagram {
         saddr: CAR,
@@ -53,10 +59,10 @@ fn udp() {
         csum: true,
         marks: MARKS,
     };
-    show(b"UDP\n", Request::Udp(datagram), &mut packet, 20, 37);
+    show(rt, "UDP", Request::Udp(datagram), &mut packet, 20)
 }
 
-fn echo() {
+fn echo(rt: &impl Print) -> io::Result<()> {
     let mut packet = [0u8; 37];
     let echo = IcmpEcho {
         saddr: CAR,
@@ -65,11 +71,11 @@ fn echo() {
         seq: 7,
         marks: MARKS,
     };
-    show(b"ICMP echo\n", Request::Echo(echo), &mut packet, 20, 37);
+    show(rt, "ICMP echo", Request::Echo(echo), &mut packet, 20)
 }
 
-fn main() {
-    tcp();
-    udp();
-    echo();
+fn main(rt: HostRuntime) -> io::Result<()> {
+    tcp(&rt)?;
+    udp(&rt)?;
+    echo(&rt)
 }

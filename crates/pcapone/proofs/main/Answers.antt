@@ -1,8 +1,13 @@
 -- What capture answers is within the buffer, so it can be written out.
-use native.Mathlib.Omega.{arith}
-use borrow.Author.Rules.{rules}
+use Rattle.std.proofs.Common.{sym, arith}
+use Rattle.std.proofs.lemmas.List.{length-take-le}
 use Rattle.pcapone.proofs.Output.{captures_fits}
 use Rattle.pcapone.proofs.main.Goals as goal
 
-pub slice_bounds-write_all-end-2 : goal.slice_bounds-write_all-end-2
-slice_bounds-write_all-end-2 c = let k = c.capture-size in omega (arith, captures_fits _ _ _ _ k.ensures)
+pub slice_bounds-write_all-end : goal.slice_bounds-write_all-end
+slice_bounds-write_all-end c =
+    let few = captures_fits _ _ _ _ c.in-Some.ensures in
+    sym (length-take-le c.in-Some.size c.capture.new.out (omega (arith, few, c.capture.auto.out)))
+
+pub slice_bounds-out-end : goal.slice_bounds-out-end
+slice_bounds-out-end c = omega (arith, captures_fits _ _ _ _ c.in-Some.ensures)

@@ -12,7 +12,6 @@ use lib.ListN.{length, take, replicate}
 use mathlib.Core.List.{List}
 use Prim.Native.Nat.{ℕ, ◌+◌, ◌-◌}
 use mathlib.Core.Path.{◌≡◌, ap, ◌∙◌}
-use borrow.Author.Rules.{rules}
 use Rattle.pcapone.proofs.capture.capture.Goals as goal
 
 pub returns-then-n-gt4096 : goal.returns-then-n-gt4096

@@ -13,7 +13,6 @@ use lib.ListN.{length}
 use mathlib.Core.List.{List, ◌++◌, append-nil}
 use Prim.Native.Nat.{ℕ, ◌+◌, ◌-◌, ◌≤◌}
 use mathlib.Core.Path.{refl, sym, ap, ◌∙◌}
-use borrow.Author.Rules.{rules}
 use Rattle.pcapone.proofs.capture.put_file.Goals as goal
 
 pub returns : goal.returns
