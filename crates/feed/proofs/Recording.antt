@@ -2,6 +2,8 @@
 use Rattle.std.proofs.Common.{◌≡◌, ℕ, zero, suc, ◌+◌, ◌-◌, ◌*◌, ◌<◌, ◌≤◌, true, List, [], ◌++◌, length, take, drop, sym, refl, ap, ◌∙◌, append_assoc, suc-mul, arith, length-append, length-drop, take-append-drop, length-take-le}
 use lib.Seq.{take-append-add, drop-append-add}
 use Rattle.pkt.specs.Answers.{Answer}
+use Rattle.std.specs.Prelude.{Result}
+use Rattle.pkt.specs.declared.refusal.Refusal.{Refusal}
 use Rattle.pkt.specs.Written.{written, leaves}
 use Rattle.pkt.proofs.Written.{written_then, written_length}
 use Rattle.ezpkt.proofs.Sizes.{size_is}
@@ -14,16 +16,15 @@ use Rattle.ezpkt.specs.Build.{fragment_size, packet_of, udp_packet, Answered}
 use Rattle.ezpkt.specs.Ip4.{fragment_of}
 use Rattle.ezpkt.specs.declared.ip4.Template.{Template}
 use Rattle.ezpkt.specs.declared.build.UdpDatagram.{UdpDatagram}
-use Rattle.ezpkt.specs.declared.build.Built.{Built}
 use Rattle.ezpkt.specs.declared.build.Request.TheVariants.{Udp}
 
 -- a datagram with a checksum
-pub udp_written : (u : UdpDatagram) (p o : List ℕ) (r : Built) (o' : List ℕ) → u.csum ≡ true → length p ≤ 65507 → 28 + length p ≤ length o
+pub udp_written : (u : UdpDatagram) (p o : List ℕ) (r : Result ℕ Refusal) (o' : List ℕ) → u.csum ≡ true → length p ≤ 65507 → 28 + length p ≤ length o
     → Answered (Udp u) p o r o' → o' ≡ written (udp_packet u p) o
 udp_written u p o r o' on few room x = x.after ∙ ap (λ (a : Answer ℕ). leaves a (udp_packet u p) o) (udp_given u (length p) (length o) on few room)
 
 -- a piece
-pub piece_written : (t : Template) (off len : ℕ) (p o : List ℕ) (r : Built) (o' : List ℕ) → length p ≤ 65515 → off ≤ 8191
+pub piece_written : (t : Template) (off len : ℕ) (p o : List ℕ) (r : Result ℕ Refusal) (o' : List ℕ) → length p ≤ 65515 → off ≤ 8191
     → fragment_size off len (length p) ≤ length o → Answered (fragment_of t off len) p o r o' → o' ≡ written (packet_of (fragment_of t off len) p) o
 piece_written t off len p o r o' few low room x =
     x.after ∙ ap (λ (a : Answer ℕ). leaves a (packet_of (fragment_of t off len) p) o) (piece_given t off len (length p) (length o) few low room)

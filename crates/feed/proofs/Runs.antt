@@ -2,6 +2,7 @@
 use Rattle.std.proofs.Common.{◌≡◌, ℕ, suc, ◌+◌, ◌%◌, ◌^◌, ◌<◌, ◌≤◌, List, [], ◌∷◌, ◌++◌, map, length, take, sym, refl, ap, ◌∙◌, subst, ap₂, arith, take_at}
 use mathlib.Core.List.{Memᴰ}
 use Rattle.pkt.specs.Answers.{Answer, refused, gives, mapped, most_bytes}
+use Rattle.std.specs.Prelude.{Ok}
 use Rattle.pkt.specs.Written.{written, leaves}
 use Rattle.ezpkt.specs.Build.{udp_packet}
 use Rattle.ezpkt.specs.declared.SocketAddrV4.{SocketAddrV4}
@@ -9,7 +10,6 @@ use Rattle.pcap.specs.Pcap.{Stamped, file_header, records_bytes, capture_bytes}
 use Rattle.pcap.specs.Runs.{AllTakable}
 use Rattle.pcap.specs.Read.{read_file}
 use Rattle.pcap.specs.Answers.{most_micros, HeaderWritten}
-use Rattle.pcap.specs.declared.Captured.TheVariants.{Bytes}
 use Rattle.pcap.proofs.Answers.{fitting_fits}
 use Rattle.pcap.proofs.Pcap.{file_header_length}
 use Rattle.pcap.proofs.Read.{capture_read}
@@ -17,7 +17,6 @@ use Rattle.pcap.proofs.Runs.{records_append, takable_append}
 use Rattle.ezpkt.specs.declared.Marks.{Marks}
 use Rattle.feed.specs.declared.Feed.{Feed}
 use Rattle.feed.specs.declared.Written.{Written}
-use Rattle.feed.specs.declared.Fed.TheVariants as fed
 use Rattle.feed.specs.Feed.{new_feed, feed_marked, next_feed, frame_dgram, frame_packets, stamped_at, frame_records, written_for, Feeds}
 use Rattle.feed.specs.Runs.{feed_at, lap_from, lap_records, FramesWritten, none, accepted, refused, LapWritten, behind_header, ReadsLap}
 use Rattle.feed.proofs.Feeding.{Granted, granted}
@@ -38,7 +37,7 @@ told_size f n w (gives x) e =
     (ap (λ (v : Written). gives v.bytes) (sym is), ap (λ (v : Written). v.feed) is)
 told_size f n w (refused x) e = let z : ◌≡◌ {A = ℕ} 0 1 = cc in absurd (omega arith)
 
-pub left_accepted : (f : Feed) (b : List ℕ) (sec usec : ℕ) (s o : List ℕ) (w : Written) (s' o' : List ℕ) → Feeds f b sec usec s o (fed.Frame w) s' o'
+pub left_accepted : (f : Feed) (b : List ℕ) (sec usec : ℕ) (s o : List ℕ) (w : Written) (s' o' : List ℕ) → Feeds f b sec usec s o (Ok w) s' o'
     → Left f b sec usec s o w s' o'
 left_accepted f b sec usec s o w s' o' x =
     let t = told_size f (length b) w _ x.answer in
@@ -59,7 +58,7 @@ all_takable sec usec (p ∷ ps) hs hu short = (
   all_takable sec usec ps hs hu (λ q m. short q (Memᴰ.tail m)),
 )
 
-module _ (f : Feed) (b : List ℕ) (sec usec : ℕ) (s o : List ℕ) (w : Written) (s' o' : List ℕ) (x : Feeds f b sec usec s o (fed.Frame w) s' o') where
+module _ (f : Feed) (b : List ℕ) (sec usec : ℕ) (s o : List ℕ) (w : Written) (s' o' : List ℕ) (x : Feeds f b sec usec s o (Ok w) s' o') where
   left : Left f b sec usec s o w s' o'
   left = left_accepted f b sec usec s o w s' o' x
 
@@ -111,7 +110,7 @@ module _ (car core : SocketAddrV4) (link : ℕ) (m : Marks) where
       }
 
   -- what `begin` wrote
-  header_first : (o o' : List ℕ) (k : ℕ) → HeaderWritten o (Bytes k) o' → take k o' ≡ file_header
+  header_first : (o o' : List ℕ) (k : ℕ) → HeaderWritten o (Ok k) o' → take k o' ≡ file_header
   unfolding written
   header_first o o' k x =
       let fits = fitting_fits 24 (length o) k (sym x.answer) in

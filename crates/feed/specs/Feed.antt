@@ -1,7 +1,8 @@
 -- Document 02, T-05: the lap feed. What a frame is answered, and every lent byte after it.
-use Rattle.std.specs.Prelude.{◌≡◌, ℕ, ◌+◌, ◌*◌, ◌%◌, ◌≤◌, Bool, true, false, cond, ◌||◌, List, ◌++◌, map, length, nat_lt}
+use Rattle.std.specs.Prelude.{◌≡◌, ℕ, ◌+◌, ◌*◌, ◌%◌, ◌≤◌, Bool, true, false, cond, ◌||◌, List, ◌++◌, map, length, nat_lt, Result}
 use mathlib.Core.List.{Memᴰ}
-use Rattle.pkt.specs.Answers.{Answer, refused, gives, mapped, most_udp}
+use Rattle.pkt.specs.Answers.{Answer, refused, gives, says, mapped, most_udp}
+use Rattle.pkt.specs.declared.refusal.Refusal.{Refusal}
 use Rattle.pkt.specs.Written.{leaves}
 use Rattle.pkt.specs.Rfc768.{udp_header, udp_checksum}
 use Rattle.ezpkt.specs.Build.{unmarked, udp_hdr_of, udp_packet}
@@ -13,8 +14,6 @@ use Rattle.pcap.specs.Pcap.{Stamped, records_bytes}
 use Rattle.pcap.specs.Answers.{most_micros}
 use Rattle.feed.specs.declared.Feed.{Feed}
 use Rattle.feed.specs.declared.Written.{Written}
-use Rattle.feed.specs.declared.Fed.{Fed}
-use Rattle.feed.specs.declared.Fed.TheVariants as fed
 use Rattle.planner.specs.Cutting.{piece_count}
 use Rattle.feed.specs.Cutting.{cut_for}
 
@@ -97,17 +96,13 @@ feed_answer m n usec scratch out =
     (cond (nat_lt scratch (28 + n) || nat_lt out (frame_size m n)) (refused 3) (gives (frame_size m n)))))
 
 -- what a frame answers: the feed after it, how many bytes were written, and how many pieces
-abbrev pub fed_says : Fed → Answer Written
-fed_says (fed.Frame w) = gives w
-fed_says (fed.Refused n) = refused n
-
 abbrev pub written_for : Feed → ℕ → ℕ → Written
 written_for f n size = record { feed = next_feed f; bytes = size; pieces = pieces_for f.link n }
 
 -- "A refused frame uses no identification and writes nothing." s and o are the scratch buffer and the output before, s' and o' after; an accepted frame
 -- leaves its datagram in the scratch buffer.
-pub record Feeds (f : Feed) (b : List ℕ) (sec usec : ℕ) (s o : List ℕ) (r : Fed) (s' o' : List ℕ) : Type 0 where
-  pub answer : fed_says r ≡ mapped (written_for f (length b)) (feed_answer f.link (length b) usec (length s) (length o))
+pub record Feeds (f : Feed) (b : List ℕ) (sec usec : ℕ) (s o : List ℕ) (r : Result Written Refusal) (s' o' : List ℕ) : Type 0 where
+  pub answer : says r ≡ mapped (written_for f (length b)) (feed_answer f.link (length b) usec (length s) (length o))
   pub output_is : o' ≡ leaves (feed_answer f.link (length b) usec (length s) (length o)) (records_bytes (frame_records f b sec usec)) o
   pub scratch_is : s' ≡ leaves (feed_answer f.link (length b) usec (length s) (length o)) (udp_packet (frame_dgram f) b) s
 

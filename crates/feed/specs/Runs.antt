@@ -1,14 +1,13 @@
 -- A lap by calls one after the other, and what is read of it. Document 02, T-05: it takes "telemetry frames one by one .. and writes a capture".
-use Rattle.std.specs.Prelude.{◌≡◌, ℕ, suc, ◌%◌, ◌^◌, ◌<◌, List, [], ◌∷◌, ◌++◌, length, take}
+use Rattle.std.specs.Prelude.{◌≡◌, ℕ, suc, ◌%◌, ◌^◌, ◌<◌, List, [], ◌∷◌, ◌++◌, length, take, Ok, Err}
+use Rattle.pkt.specs.declared.refusal.Refusal.{Refusal}
 use Rattle.ezpkt.specs.declared.SocketAddrV4.{SocketAddrV4}
 use Rattle.pcap.specs.Pcap.{Stamped}
 use Rattle.pcap.specs.Answers.{HeaderWritten}
 use Rattle.pcap.specs.Read.{read_file, captured}
-use Rattle.pcap.specs.declared.Captured.TheVariants.{Bytes}
 use Rattle.ezpkt.specs.declared.Marks.{Marks}
 use Rattle.feed.specs.declared.Feed.{Feed}
 use Rattle.feed.specs.declared.Written.{Written}
-use Rattle.feed.specs.declared.Fed.TheVariants as fed
 use Rattle.feed.specs.Feed.{new_feed, feed_marked, frame_records, Feeds}
 
 -- "numbers the datagrams by identification from 0 modulo 65,536": the feed before its frame number i
@@ -28,15 +27,15 @@ lap_records car core link m xs = lap_from car core link m 0 xs
 pub data FramesWritten : Feed → List Stamped → Feed → List ℕ → Type 0 where
   none : (f : Feed) → FramesWritten f [] f []
   accepted : (f : Feed) (x : Stamped) (xs : List Stamped) (g : Feed) (c s o s' o' : List ℕ) (w : Written) → x.sec < 2 ^ 32
-      → Feeds f x.packet x.sec x.usec s o (fed.Frame w) s' o' → FramesWritten w.feed xs g c
+      → Feeds f x.packet x.sec x.usec s o (Ok w) s' o' → FramesWritten w.feed xs g c
       → FramesWritten f (x ∷ xs) g (take w.bytes o' ++ c)
-  refused : (f : Feed) (x : Stamped) (xs : List Stamped) (g : Feed) (c s o s' o' : List ℕ) (n : ℕ)
-      → Feeds f x.packet x.sec x.usec s o (fed.Refused n) s' o' → FramesWritten f xs g c
+  refused : (f : Feed) (x : Stamped) (xs : List Stamped) (g : Feed) (c s o s' o' : List ℕ) (e : Refusal)
+      → Feeds f x.packet x.sec x.usec s o (Err e) s' o' → FramesWritten f xs g c
       → FramesWritten f xs g c
 
 -- A lap's bytes l: what an accepted call of `begin` wrote, and behind it what those calls did.
 pub data LapWritten (f : Feed) (xs : List Stamped) (g : Feed) : List ℕ → Type 0 where
-  behind_header : (c o o' : List ℕ) (k : ℕ) → HeaderWritten o (Bytes k) o' → FramesWritten f xs g c → LapWritten f xs g (take k o' ++ c)
+  behind_header : (c o o' : List ℕ) (k : ℕ) → HeaderWritten o (Ok k) o' → FramesWritten f xs g c → LapWritten f xs g (take k o' ++ c)
 
 -- Of any number of frames of a new feed, whatever its TOS and TTL:
 pub record ReadsLap : Type 0 where

@@ -2,21 +2,21 @@
 #![tactic(auto)]
 
 ghost use Rattle.std.specs.Prelude.{◌≡◌, ◌+◌, ◌≤◌, length};
-ghost use Rattle.pkt.specs.Answers.{most_udp};
+ghost use Rattle.pkt.specs.Answers.{says, most_udp};
 ghost use Rattle.pkt.specs.Written.{written};
 ghost use Rattle.ezpkt.specs.Build.{packet_of, udp_packet};
 ghost use Rattle.ezpkt.specs.Ip4.{fragment_of};
-ghost use Rattle.pcap.specs.Answers.{captured_says, HeaderWritten};
+ghost use Rattle.pcap.specs.Answers.{HeaderWritten};
 ghost use Rattle.pcap.specs.Pcap.{record_bytes};
 ghost use Rattle.feed.specs.Feed.{new_feed, feed_marked, next_feed, bad_link, frame_dgram, template_of, feed_answer, Feeds};
 ghost use Rattle.feed.specs.Steps.{record_long, PieceAsks, AllAsks, records_from};
 
-use ezpkt::build::{Built, Request, UdpDatagram};
+use ezpkt::build::{Request, UdpDatagram};
 use ezpkt::ip4::Template;
 use ezpkt::{Marks, SocketAddrV4, build, ip4};
-use pcap::Captured;
 use pkt::copying::copy;
-use pkt::{limit, refusal};
+use pkt::limit;
+use pkt::refusal::Refusal;
 
 const LEAST_LINK: u32 = 28;
 
@@ -40,13 +40,6 @@ pub struct Written {
     pub pieces: usize,
 }
 
-// What a frame is answered.
-#[derive(Clone, Copy, Drop)]
-pub enum Fed {
-    Frame(Written),
-    Refused(u8),
-}
-
 // A feed whose next datagram is its first.
 pub fn new(car: SocketAddrV4, core: SocketAddrV4, link: u32) -> Feed
     ensures { result ≡ new_feed car core link }
@@ -64,13 +57,11 @@ pub fn new(car: SocketAddrV4, core: SocketAddrV4, link: u32) -> Feed
 pub fn marked(feed: Feed, marks: Marks) -> Feed
     ensures { result ≡ feed_marked feed marks }
 {
-    let mut next = feed;
-    next.marks = marks;
-    next
+    Feed { marks, ..feed }
 }
 
 // The capture's file header at the start of out.
-pub fn begin(out: &mut [u8]) -> Captured
+pub fn begin(out: &mut [u8]) -> Result<usize, Refusal>
     ensures { HeaderWritten out.old result out.new }
 {
     pcap::write_header(out)
@@ -79,41 +70,39 @@ pub fn begin(out: &mut [u8]) -> Captured
 fn next(feed: Feed) -> Feed
     ensures { result ≡ next_feed feed }
 {
-    let mut next = feed;
-    next.id = std::num::wrapping_add_u16(feed.id, 1);
-    next
+    Feed {
+        id: feed.id.wrapping_add(1),
+        ..feed
+    }
 }
 
 fn is_bad(link: u32) -> bool
     ensures { result ≡ bad_link link }
 {
-    if link < LEAST_LINK {
-        return true;
-    }
-    link > MOST_LINK
+    link < LEAST_LINK || link > MOST_LINK
 }
 
 // Every refusal, in its order.
-fn answer(link: u32, n: usize, usec: u32, scratch: usize, out: usize) -> Captured
-    ensures { captured_says result ≡ feed_answer link n usec scratch out }
+fn answer(link: u32, n: usize, usec: u32, scratch: usize, out: usize) -> Result<usize, Refusal>
+    ensures { says result ≡ feed_answer link n usec scratch out }
 {
     if n > limit::UDP_PAYLOAD {
-        return Captured::Refused(refusal::TOO_LONG);
+        return Err(Refusal::TooLong);
     }
     if is_bad(link) {
-        return Captured::Refused(refusal::BAD_LINK);
+        return Err(Refusal::BadLink);
     }
     if usec > 999999 {
-        return Captured::Refused(refusal::BAD_TIME);
+        return Err(Refusal::BadTime);
     }
     let size = 36 * planner::count(8 + n, link as usize) + (8 + n);
     if scratch < 28 + n {
-        return Captured::Refused(refusal::NO_ROOM);
+        return Err(Refusal::NoRoom);
     }
     if out < size {
-        return Captured::Refused(refusal::NO_ROOM);
+        return Err(Refusal::NoRoom);
     }
-    Captured::Bytes(size)
+    Ok(size)
 }
 
 fn template(feed: Feed) -> Template
@@ -156,7 +145,7 @@ fn datagram(feed: Feed, bytes: &[u8], scratch: &mut [u8])
     requires { (length bytes.now ≤ most_udp) × (28 + length bytes.now ≤ length scratch.old) }
     ensures { scratch.new ≡ written (udp_packet (frame_dgram feed) bytes.now) scratch.old }
 {
-    build::build(Request::Udp(dgram(feed)), bytes, scratch);
+    let _ = build::build(Request::Udp(dgram(feed)), bytes, scratch);
 }
 
 // The record of a piece, at the start of out: how many bytes it has.
@@ -176,7 +165,7 @@ fn put(
     let size = ip4::fragment_size(off, len, payload.len());
     let header = pcap::record_header(sec, usec, size as u32);
     copy(&header, out);
-    ip4::fragment(template, payload, off, len, &mut out[16..]);
+    let _ = ip4::fragment(template, payload, off, len, &mut out[16..]);
     16 + size
 }
 
@@ -193,11 +182,10 @@ fn put_all(
     requires { AllAsks blocks pieces (length payload.now) (length out.old) }
     ensures { out.new ≡ written (records_from template payload.now blocks pieces 0 sec usec) out.old }
 {
-    let mut left = pieces;
     let mut off: u16 = 0;
     let mut at = 0;
-    while left > 0 {
-        left -= 1;
+    for done in 0..pieces {
+        let left = pieces - 1 - done;
         let len = planner::length_at(blocks as usize, left, off, payload.len()) as u16;
         at += put(template, payload, off, len, sec, usec, &mut out[at..]);
         off += blocks;
@@ -212,31 +200,27 @@ pub fn frame(
     usec: u32,
     scratch: &mut [u8],
     out: &mut [u8],
-) -> Fed
+) -> Result<Written, Refusal>
     ensures { Feeds feed bytes.now sec usec scratch.old out.old result scratch.new out.new }
 {
     let n = bytes.len();
     let link = feed.link;
-    match answer(link, n, usec, scratch.len(), out.len()) {
-        Captured::Refused(number) => Fed::Refused(number),
-        Captured::Bytes(size) => {
-            let pieces = planner::count(8 + n, link as usize);
-            let blocks = ((link - 20) / 8) as u16;
-            datagram(feed, bytes, scratch);
-            put_all(
-                template(feed),
-                &scratch[20..28 + n],
-                blocks,
-                pieces,
-                sec,
-                usec,
-                out,
-            );
-            Fed::Frame(Written {
-                feed: next(feed),
-                bytes: size,
-                pieces,
-            })
-        }
-    }
+    let size = answer(link, n, usec, scratch.len(), out.len())?;
+    let pieces = planner::count(8 + n, link as usize);
+    let blocks = ((link - 20) / 8) as u16;
+    datagram(feed, bytes, scratch);
+    put_all(
+        template(feed),
+        &scratch[20..28 + n],
+        blocks,
+        pieces,
+        sec,
+        usec,
+        out,
+    );
+    Ok(Written {
+        feed: next(feed),
+        bytes: size,
+        pieces,
+    })
 }

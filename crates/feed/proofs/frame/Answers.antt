@@ -3,7 +3,7 @@ use Rattle.std.proofs.Common.{◌≡◌, ℕ, ◌+◌, ◌-◌, ◌*◌, ◌≤�
 use Rattle.pkt.specs.Answers.{Answer, gives, mapped}
 use Rattle.pkt.specs.Written.{written, leaves}
 use Rattle.ezpkt.specs.Build.{udp_packet}
-use Rattle.pcap.specs.Answers.{captured_says}
+use Rattle.std.proofs.lemmas.Result.{err_from_is_err_and}
 use Rattle.pcap.specs.Pcap.{records_bytes}
 use Rattle.feed.specs.declared.Feed.{Feed}
 use Rattle.planner.specs.Cutting.{blocks_in, piece_count}
@@ -17,9 +17,7 @@ pub overflow_add-n : goal.overflow_add-n
 overflow_add-n c =
     let a = c.args in
     let n : ℕ = length a.bytes.now in
-    let t =
-    granted a.feed.link n a.usec (length a.scratch.now) (length a.out.now) c.in-Bytes.size
-    (sym (ap captured_says c.in-Bytes.is) ∙ c.answer.ensures) in
+    let t = granted a.feed.link n a.usec (length a.scratch.now) (length a.out.now) c.in_ok-size.size c.in_ok-size.ensures in
     let few = t.few in
     search rules
 
@@ -27,18 +25,14 @@ pub overflow_sub-blocks : goal.overflow_sub-blocks
 overflow_sub-blocks c =
     let a = c.args in
     let n : ℕ = length a.bytes.now in
-    let t =
-    granted a.feed.link n a.usec (length a.scratch.now) (length a.out.now) c.in-Bytes.size
-    (sym (ap captured_says c.in-Bytes.is) ∙ c.answer.ensures) in
+    let t = granted a.feed.link n a.usec (length a.scratch.now) (length a.out.now) c.in_ok-size.size c.in_ok-size.ensures in
     omega (arith, t.least)
 
 pub overflow_cast-blocks : goal.overflow_cast-blocks
 overflow_cast-blocks c =
     let a = c.args in
     let n : ℕ = length a.bytes.now in
-    let t =
-    granted a.feed.link n a.usec (length a.scratch.now) (length a.out.now) c.in-Bytes.size
-    (sym (ap captured_says c.in-Bytes.is) ∙ c.answer.ensures) in
+    let t = granted a.feed.link n a.usec (length a.scratch.now) (length a.out.now) c.in_ok-size.size c.in_ok-size.ensures in
     let most = t.most in
     search rules
 
@@ -46,18 +40,14 @@ pub datagram-requires : goal.datagram-requires
 datagram-requires c =
     let a = c.args in
     let n : ℕ = length a.bytes.now in
-    let t =
-    granted a.feed.link n a.usec (length a.scratch.now) (length a.out.now) c.in-Bytes.size
-    (sym (ap captured_says c.in-Bytes.is) ∙ c.answer.ensures) in
+    let t = granted a.feed.link n a.usec (length a.scratch.now) (length a.out.now) c.in_ok-size.size c.in_ok-size.ensures in
     (t.few, t.scratch_room)
 
-pub overflow_add-n-in-Bytes : goal.overflow_add-n-in-Bytes
-overflow_add-n-in-Bytes c =
+pub overflow_add-n-2 : goal.overflow_add-n-2
+overflow_add-n-2 c =
     let a = c.args in
     let n : ℕ = length a.bytes.now in
-    let t =
-    granted a.feed.link n a.usec (length a.scratch.now) (length a.out.now) c.in-Bytes.size
-    (sym (ap captured_says c.in-Bytes.is) ∙ c.answer.ensures) in
+    let t = granted a.feed.link n a.usec (length a.scratch.now) (length a.out.now) c.in_ok-size.size c.in_ok-size.ensures in
     let few = t.few in
     search rules
 
@@ -65,9 +55,7 @@ pub slice_bounds-put_all-start : goal.slice_bounds-put_all-start
 slice_bounds-put_all-start c =
     let a = c.args in
     let n : ℕ = length a.bytes.now in
-    let t =
-    granted a.feed.link n a.usec (length a.scratch.now) (length a.out.now) c.in-Bytes.size
-    (sym (ap captured_says c.in-Bytes.is) ∙ c.answer.ensures) in
+    let t = granted a.feed.link n a.usec (length a.scratch.now) (length a.out.now) c.in_ok-size.size c.in_ok-size.ensures in
     let few = t.scratch_room in
     omega (arith, c.datagram.auto.scratch)
 
@@ -75,9 +63,7 @@ pub slice_bounds-put_all-end : goal.slice_bounds-put_all-end
 slice_bounds-put_all-end c =
     let a = c.args in
     let n : ℕ = length a.bytes.now in
-    let t =
-    granted a.feed.link n a.usec (length a.scratch.now) (length a.out.now) c.in-Bytes.size
-    (sym (ap captured_says c.in-Bytes.is) ∙ c.answer.ensures) in
+    let t = granted a.feed.link n a.usec (length a.scratch.now) (length a.out.now) c.in_ok-size.size c.in_ok-size.ensures in
     let few = t.scratch_room in
     omega (arith, c.datagram.auto.scratch)
 
@@ -85,9 +71,7 @@ pub put_all-requires : goal.put_all-requires
 put_all-requires c =
     let a = c.args in
     let n : ℕ = length a.bytes.now in
-    let t =
-    granted a.feed.link n a.usec (length a.scratch.now) (length a.out.now) c.in-Bytes.size
-    (sym (ap captured_says c.in-Bytes.is) ∙ c.answer.ensures) in
+    let t = granted a.feed.link n a.usec (length a.scratch.now) (length a.out.now) c.in_ok-size.size c.in_ok-size.ensures in
     let k : ℕ = 28 + n - 20 in
     let ce = c.count-pieces.ensures in
     let pl : length (take k (drop 20 c.datagram.new.scratch)) ≡ 8 + n =
@@ -105,26 +89,26 @@ put_all-requires c =
       has_room = omega (arith, pl, ce, t.out_room);
     }
 
-pub returns-in-Refused : goal.returns-in-Refused
-returns-in-Refused c =
+pub returns-in_err-size : goal.returns-in_err-size
+returns-in_err-size c =
     let a = c.args in
-    let e = sym c.answer.ensures ∙ ap captured_says c.in-Refused.is in
+    let p = err_from_is_err_and c.from_residual.result c.from_residual.ensures.1 in
+    let e = c.in_err-size.ensures in
     record {
-      answer = sym (ap (mapped (written_for a.feed (length a.bytes.now))) e);
-      output_is = sym (ap (λ (x : Answer ℕ). leaves x (records_bytes (frame_records a.feed a.bytes.now a.sec a.usec)) a.out.now) e);
-      scratch_is = sym (ap (λ (x : Answer ℕ). leaves x (udp_packet (frame_dgram a.feed) a.bytes.now) a.scratch.now) e);
+      answer = rw (p.1, p.2) (ap (mapped (written_for a.feed (length a.bytes.now))) e);
+      output_is = ap (λ (x : Answer ℕ). leaves x (records_bytes (frame_records a.feed a.bytes.now a.sec a.usec)) a.out.now) e;
+      scratch_is = ap (λ (x : Answer ℕ). leaves x (udp_packet (frame_dgram a.feed) a.bytes.now) a.scratch.now) e;
     }
 
-pub returns-in-Bytes : goal.returns-in-Bytes
-returns-in-Bytes c =
+pub returns : goal.returns
+returns c =
     let a = c.args in
     let f : Feed = a.feed in
     let b : List ℕ = a.bytes.now in
     let n : ℕ = length b in
     let k : ℕ = 28 + n - 20 in
-    let size : ℕ = c.in-Bytes.size in
-    let e : feed_answer f.link n a.usec (length a.scratch.now) (length a.out.now) ≡ gives size =
-    sym c.answer.ensures ∙ ap captured_says c.in-Bytes.is in
+    let size : ℕ = c.in_ok-size.size in
+    let e : gives size ≡ feed_answer f.link n a.usec (length a.scratch.now) (length a.out.now) = c.in_ok-size.ensures in
     let p : take k (drop 20 c.datagram.new.scratch) ≡ payload_of f b =
     ap (λ (l : List ℕ). take k (drop 20 l)) c.datagram.ensures ∙ payload_lent f b a.scratch.now k (omega arith) in
     let ce : c.count-pieces.result ≡ piece_count (length (payload_of f b)) f.link =
@@ -132,11 +116,11 @@ returns-in-Bytes c =
     record {
       answer =
           (λ i. gives (record { feed = c.next.ensures i; bytes = size; pieces = c.count-pieces.ensures i }))
-          ∙ sym (ap (mapped (written_for f n)) e);
+          ∙ ap (mapped (written_for f n)) e;
       output_is =
           c.put_all.ensures
           ∙ (λ i. written (records_from (c.template.ensures i) (p i) (blocks_in f.link) (ce i) 0 a.sec a.usec) a.out.now)
-          ∙ sym (ap (λ (x : Answer ℕ). leaves x (records_bytes (frame_records f b a.sec a.usec)) a.out.now) e);
+          ∙ ap (λ (x : Answer ℕ). leaves x (records_bytes (frame_records f b a.sec a.usec)) a.out.now) e;
       scratch_is =
-          c.datagram.ensures ∙ sym (ap (λ (x : Answer ℕ). leaves x (udp_packet (frame_dgram f) b) a.scratch.now) e);
+          c.datagram.ensures ∙ ap (λ (x : Answer ℕ). leaves x (udp_packet (frame_dgram f) b) a.scratch.now) e;
     }
