@@ -95,13 +95,13 @@ module _ (f : Feed) (b s' : List ℕ) (x : FrameFed f b s') where
   given : answer_of (Udp (frame_dgram f)) (length b) (length x.scratch) ≡ gives (28 + length b)
   given = udp_given (frame_dgram f) (length b) (length x.scratch) refl left.granted.few left.granted.scratch_room
 
-  built : Answered (Udp (frame_dgram f)) b x.scratch (Packet (28 + length b)) s'
+  built : Answered (Udp (frame_dgram f)) b x.scratch (Ok (28 + length b)) s'
   built = record { answer = sym given; after = left.scratch_is ∙ ap (λ (a : Answer ℕ). leaves a (udp_packet (frame_dgram f) b) x.scratch) (sym given) }
 
   datagram : payload_in (28 + length b) s' ≡ d
   unfolding udp_packet payload_of
   datagram =
-      ap (drop 20) (built_packet (Udp (frame_dgram f)) b x.scratch s' (Packet (28 + length b)) (28 + length b) built refl).1
+      ap (drop 20) (built_packet (Udp (frame_dgram f)) b x.scratch s' (Ok (28 + length b)) (28 + length b) built refl).1
       ∙ behind (flow_ip f.marks 17 (28 + length b) 0 f.car.ip f.core.ip) _
 
   -- what `datagram` builds of it

@@ -4,12 +4,14 @@ use mathlib.Core.List.Memᴰ
 use mathlib.Core.List.{List, [], ◌∷◌, map, Memᴰ}
 use Prim.Native.Nat.{ℕ}
 use lib.ListN.{length, take}
+use Rattle.std.specs.Prelude.{Ok}
 use Rattle.pkt.specs.Answers.{gives_all}
 use Rattle.pkt.specs.Fields.{Bytes}
 use Rattle.pcap.specs.Pcap.{Stamped, capture_bytes}
 use Rattle.pcap.specs.Runs.{AllTakable}
 use Rattle.reading.specs.Ends.{records_answer}
-use Rattle.mending.specs.Mend.{mend, changes, Counts, counts, mend_answer, Mends}
+use Rattle.mending.specs.Mend.{mend, changes, counts, mend_answer, Mends}
+use Rattle.mending.specs.declared.Counts.{Counts}
 use Rattle.mending.proofs.Captures.{captures_mended}
 use Rattle.mending.proofs.Deciding.{records_then, room_given}
 use Rattle.mending.proofs.Twice.{mends_given, front_written}
@@ -45,12 +47,12 @@ capture_rewritten xs h = capture_mended (map damaged xs) (damaged_takable xs h) 
 -- ---- the call
 
 -- An accepted call leaves the mended capture at the start of the output.
-call_mends : (l o o' : List ℕ) (e e' : List (List ℕ)) (n k : ℕ) → Mends l o e (Written n k) o' e' → take n o' ≡ mend l
+call_mends : (l o o' : List ℕ) (e e' : List (List ℕ)) (n k : ℕ) → Mends l o e (Ok (counts n k)) o' e' → take n o' ≡ mend l
 call_mends l o o' e e' n k m =
     let given : mend_answer l (length o) (length e) ≡ gives_all (counts n k) = sym m.answer in
     let past = records_then (records_answer l) _ (counts n k) given in
     let size : n ≡ length l = ap (λ (c : Counts). c.bytes) (room_given (length l) (length (changes l)) (length o) (length e) (counts n k) past.1).0 in
-    ap (take n) (mends_given l o o' e e' (Written n k) (counts n k) m given).1 ∙ front_written o (mend l) n (captures_mended.size l ∙ sym size)
+    ap (take n) (mends_given l o o' e e' (Ok (counts n k)) (counts n k) m given).1 ∙ front_written o (mend l) n (captures_mended.size l ∙ sym size)
 
 -- Document 02, T-08: "Old test captures carry wrong checksums after addresses were blanked."
 pub mends_built : MendsBuilt

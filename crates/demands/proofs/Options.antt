@@ -11,7 +11,8 @@ use Rattle.pkt.specs.Fields.{Bytes}
 use Rattle.pkt.specs.Rfc791.{ip_header}
 use Rattle.pkt.specs.declared.ipv4.ip_hdr.{ip_hdr}
 use Rattle.ezpkt.specs.declared.SocketAddrV4.{SocketAddrV4}
-use Rattle.inspect.specs.Answers.{Whole, whole}
+use Rattle.inspect.specs.declared.check.Whole.{Whole}
+use Rattle.inspect.specs.Answers.{whole}
 use Rattle.inspect.specs.Header.{header_of, frame_answer, unreserved, read_answer, data_of}
 use Rattle.inspect.specs.Check.{whole_answer, check_answer, examine_answer}
 use Rattle.inspect.specs.Encoded.{read_of}

@@ -8,7 +8,7 @@ use native.Mathlib.Omega.{arith}
 use lib.ListN.{length, length-append}
 use lib.Dec.{ltb}
 use borrow.Author.Tests.{ltb-false, le-ltb}
-use Rattle.pkt.specs.Answers.{Answer, gives, gives_all}
+use Rattle.pkt.specs.Answers.{Answer, gives, gives_all, list_says}
 use Rattle.pkt.specs.Written.{leaves}
 use Rattle.pkt.proofs.Choice.{or_no, pick_no}
 use Rattle.pkt.proofs.Written.{written_length}
@@ -88,9 +88,9 @@ at_start f two =
 -- ---- the ends of one call
 
 few_ends : (r : Result Sent Refusal) (g : Gone) → sent_says r ≡ gives g → length g.ends ≤ 3
-few_ends (sent.One f a) g e = let z : record { flow = f; ends = a ∷ [] } ≡ g = cc in subst (λ (x : Gone). length x.ends ≤ 3) z (omega arith)
-few_ends (sent.Two f a b) g e = let z : record { flow = f; ends = a ∷ b ∷ [] } ≡ g = cc in subst (λ (x : Gone). length x.ends ≤ 3) z (omega arith)
-few_ends (sent.Three f a b c) g e = let z : record { flow = f; ends = a ∷ b ∷ c ∷ [] } ≡ g = cc in subst (λ (x : Gone). length x.ends ≤ 3) z (omega arith)
+few_ends (Ok (sent.One f a)) g e = let z : record { flow = f; ends = a ∷ [] } ≡ g = cc in subst (λ (x : Gone). length x.ends ≤ 3) z (omega arith)
+few_ends (Ok (sent.Two f a b)) g e = let z : record { flow = f; ends = a ∷ b ∷ [] } ≡ g = cc in subst (λ (x : Gone). length x.ends ≤ 3) z (omega arith)
+few_ends (Ok (sent.Three f a b c)) g e = let z : record { flow = f; ends = a ∷ b ∷ c ∷ [] } ≡ g = cc in subst (λ (x : Gone). length x.ends ≤ 3) z (omega arith)
 few_ends (Err n) g e = let z : ◌≡◌ {A = ℕ} 0 1 = cc in absurd (omega arith)
 
 -- They go up, and none is past the bytes that are sent.
@@ -130,7 +130,7 @@ not_refused f es o r b g x e q p =
     go q _ (p ∙ pick_no _ _ few ∙ pick_no _ _ all)
   where
     go : (q : Result Report ListRefusal) (y : Report) → list_says q ≡ gives_all y → (x : Report) × (q ≡ Ok x)
-    go (Is x) y h = (x, refl)
+    go (Ok x) y h = (x, refl)
     go (Err (Whole n)) y h = let z : ◌≡◌ {A = ℕ} 0 1 = cc in absurd (omega arith)
     go (Err (At n i)) y h = let z : ◌≡◌ {A = ℕ} 0 1 = cc in absurd (omega arith)
 

@@ -16,7 +16,7 @@ use Rattle.pkt.specs.Refusal.{number_of}
 use Rattle.pkt.specs.declared.refusal.Refusal.{Refusal}
 use Rattle.pkt.specs.declared.refusal.Refusal.TheVariants.{BadAssembly, Short, NotIpv4, BadTotal, BadHeader, Reserved, WrongKey, NotBlocks, TooFar}
 use Rattle.assembly.specs.declared.Taken.{Taken}
-use Rattle.assembly.specs.Assembly.{State, outcome}
+use Rattle.assembly.specs.Assembly.{State}
 use Rattle.assembly.specs.View.{view, record_of}
 use Rattle.assembly.specs.Answers.{reply_of, rec_after, payload_after, map_after}
 use Rattle.assembly.specs.Calls.{capacity, map_bytes, open_answer, take_answer, Opens, Takes}
@@ -74,11 +74,12 @@ numbers es = map number_of es
 
 named : (es : List Refusal) (n : ℕ) → is_in n (numbers es) ≡ true → (e : Refusal) × (number_of e ≡ n)
 named [] n h = absurd (true≢false (sym h))
-named (e ∷ es) n h = go (eqb n (number_of e)) refl h
+named (e ∷ es) n h = go (eqb n (number_of e)) refl h (named es n)
   where
-    go : (b : Bool) → eqb n (number_of e) ≡ b → (b || is_in n (numbers es)) ≡ true → (e : Refusal) × (number_of e ≡ n)
-    go true q h = (e, sym (eqb-true n (number_of e) q))
-    go false q h = named es n h
+    go : (b : Bool) → eqb n (number_of e) ≡ b → (b || is_in n (numbers es)) ≡ true → (is_in n (numbers es) ≡ true → (e : Refusal) × (number_of e ≡ n))
+        → (e : Refusal) × (number_of e ≡ n)
+    go true q h rest = (e, sym (eqb-true n (number_of e) q))
+    go false q h rest = rest h
 
 numbered : (es : List Refusal) (n : ℕ) → Among {A = State} (numbers es) (refused n) → is_in n (numbers es) ≡ true
 numbered es n (number m h) = h
