@@ -1,18 +1,14 @@
 // Packets with IPv4 options, and first bytes.
 use crate::shown::{STDOUT_FILENO, say, show};
 use inspect::check;
-use inspect::check::Checked;
 use pkt::copying::copy;
+use pkt::refusal::Refusal;
 
 // Whether 5 is not what a packet of 20 bytes is refused by, if this is its first byte and the others are zero.
 fn is_ipv4(first: u8) -> bool {
     let mut packet = [0u8; 20];
     packet[0] = first;
-    match check::check(&packet) {
-        Checked::Good => true,
-        Checked::NoChecksum => true,
-        Checked::Refused(n) => n != 5,
-    }
+    check::check(&packet) != Err(Refusal::NotIpv4)
 }
 
 // Such a first byte.

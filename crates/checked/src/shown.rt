@@ -1,6 +1,7 @@
 // A line for each packet.
 use inspect::check;
-use inspect::check::Checked;
+use inspect::check::Verdict;
+use pkt::refusal::Refusal;
 
 pub(crate) const STDOUT_FILENO: i32 = 1;
 
@@ -10,17 +11,17 @@ pub(crate) fn say(words: &[u8]) {
 }
 
 // What the check answers.
-fn say_checked(answer: Checked) {
+fn say_checked(answer: Result<Verdict, Refusal>) {
     match answer {
-        Checked::Good => {
+        Ok(Verdict::Good) => {
             say(b"good\n");
         }
-        Checked::NoChecksum => {
+        Ok(Verdict::NoChecksum) => {
             say(b"good without checksum\n");
         }
-        Checked::Refused(n) => {
+        Err(refusal) => {
             say(b"refused ");
-            io::print_decimal(STDOUT_FILENO, n as u64);
+            io::print_decimal(STDOUT_FILENO, refusal.number() as u64);
             say(b"\n");
         }
     }

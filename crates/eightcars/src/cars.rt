@@ -1,6 +1,6 @@
 // What the cars send: a telemetry datagram each, cut in three pieces of up to two blocks.
 use assembly::Key;
-use ezpkt::build::{Built, Request, UdpDatagram};
+use ezpkt::build::{Request, UdpDatagram};
 use ezpkt::ip4::Template;
 use ezpkt::{Marks, build, ip4, part};
 
@@ -40,13 +40,6 @@ pub(crate) fn template_of(car: u8) -> Template {
     }
 }
 
-fn size_of(built: Built) -> usize {
-    match built {
-        Built::Packet(n) => n,
-        Built::Refused(_) => 0,
-    }
-}
-
 // A datagram of a car that carries these words, with these flags and this offset.
 pub(crate) fn datagram(car: u8, frag_off: u16, words: &[u8]) -> Whole {
     let request = Request::Udp(UdpDatagram {
@@ -59,7 +52,7 @@ pub(crate) fn datagram(car: u8, frag_off: u16, words: &[u8]) -> Whole {
         marks: Marks::default(),
     });
     let mut bytes = [0u8; 80];
-    let n = size_of(build::build(request, words, &mut bytes));
+    let n = build::build(request, words, &mut bytes).unwrap_or(0);
     Whole { bytes, n }
 }
 
@@ -78,26 +71,12 @@ fn telemetry(car: u8) -> Whole {
     }
 }
 
-// Whether two slices have the same bytes.
-pub(crate) fn same(a: &[u8], b: &[u8]) -> bool {
-    let n = a.len();
-    if n != b.len() {
-        return false;
-    }
-    for i in 0..n {
-        if a[i] != b[i] {
-            return false;
-        }
-    }
-    true
-}
-
 // Whether these bytes are the IPv4 payload of a car's telemetry.
 pub(crate) fn is_telemetry(car: u8, got: &[u8]) -> bool {
     let whole = telemetry(car);
     let bytes = whole.bytes;
     let n = whole.n;
-    same(got, part::back(part::front(&bytes, n), 20))
+    got == part::back(part::front(&bytes, n), 20)
 }
 
 // Two blocks from block off of the telemetry of the car `of`, as far as they are there, sent by `car`.
@@ -106,7 +85,7 @@ pub(crate) fn piece(car: u8, of: u8, off: u16) -> [u8; 36] {
     let bytes = whole.bytes;
     let n = whole.n;
     let mut out = [0u8; 36];
-    ip4::fragment(
+    let _ = ip4::fragment(
         template_of(car),
         part::back(part::front(&bytes, n), 20),
         off,

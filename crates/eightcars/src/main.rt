@@ -5,10 +5,10 @@ mod cars;
 mod steps;
 mod words;
 
-use assembly::{Rec, Total};
+use assembly::Rec;
 use ezpkt::{ip4, part};
 use steps::{hand, play, run};
-use table::{Out, Slot};
+use table::Slot;
 use words::{say, say_number, say_refused, say_yes};
 
 // The 24 pieces of eight cars in one order, and what is taken out then.
@@ -43,7 +43,7 @@ fn spoil(payloads: &mut [u8], maps: &mut [u8]) {
 }
 
 // A slot with the key of car 1.
-fn slot(used: bool, total: Total, floor: usize, spoilt: bool) -> Slot {
+fn slot(used: bool, total: Option<usize>, floor: usize, spoilt: bool) -> Slot {
     let key = cars::key_of(1);
     let rec = Rec {
         key,
@@ -58,7 +58,7 @@ fn slot(used: bool, total: Total, floor: usize, spoilt: bool) -> Slot {
 fn rubbish() {
     let mut payloads = [0xaau8; 65536];
     let mut maps = [0xffu8; 1024];
-    let free = slot(false, Total::Known(60000), 65000, true);
+    let free = slot(false, Some(60000), 65000, true);
     say(b"rubbish with the key of car 1 in eight free slots:\n");
     play(
         [free; 8],
@@ -82,11 +82,11 @@ fn into(
     let taken = table::take_out(t, cars::key_of(2), payloads, maps, out);
     let answer = taken.answer;
     match answer {
-        Out::Refused(number) => say_refused(number),
-        Out::Datagram(n) => {
+        Err(refusal) => say_refused(refusal),
+        Ok(n) => {
             say_number(n as u64);
             say(b" bytes, as sent:");
-            say_yes(cars::same(out, sent));
+            say_yes(&*out == sent);
         }
     }
     say(b"\n");
@@ -99,7 +99,7 @@ fn long(t: [Slot; 8], payloads: &mut [u8], maps: &mut [u8]) -> [Slot; 8] {
     data[0] = b'a';
     data[8191] = b'z';
     let mut packet = [0u8; 8212];
-    ip4::datagram(cars::template_of(2), &data, &mut packet);
+    let _ = ip4::datagram(cars::template_of(2), &data, &mut packet);
     say(b"8,192 bytes of car 2:");
     let all = hand(t, &packet, payloads, maps);
     let mut short = [0u8; 8191];
@@ -154,16 +154,16 @@ fn slots(second: Slot, last: Slot) {
 }
 
 fn records() {
-    let free = slot(false, Total::Unknown, 0, false);
-    let good = slot(true, Total::Unknown, 0, false);
+    let free = slot(false, None, 0, false);
+    let good = slot(true, None, 0, false);
     say(b"total 8,193 in the last slot:\n");
-    slots(free, slot(true, Total::Known(8193), 0, false));
+    slots(free, slot(true, Some(8193), 0, false));
     say(b"total 8,192:\n");
-    slots(free, slot(true, Total::Known(8192), 0, false));
+    slots(free, slot(true, Some(8192), 0, false));
     say(b"floor 8,194:\n");
-    slots(free, slot(true, Total::Unknown, 8194, false));
+    slots(free, slot(true, None, 8194, false));
     say(b"floor 8,193:\n");
-    slots(free, slot(true, Total::Unknown, 8193, false));
+    slots(free, slot(true, None, 8193, false));
     say(b"one key in two slots:\n");
     slots(good, good);
 }

@@ -1,9 +1,9 @@
 // The calls of a table, each with the line that says what it answers, and the table after it.
 use crate::cars;
-use crate::cars::same;
 use crate::words::{say, say_gone, say_number, say_refused, say_stepped, say_yes};
 use ezpkt::part;
-use table::{Out, Slot};
+use pkt::refusal::Refusal;
+use table::Slot;
 
 // Hands a packet in.
 pub(crate) fn hand(t: [Slot; 8], packet: &[u8], payloads: &mut [u8], maps: &mut [u8]) -> [Slot; 8] {
@@ -52,10 +52,10 @@ fn far(t: [Slot; 8], car: u8, payloads: &mut [u8], maps: &mut [u8]) -> [Slot; 8]
 }
 
 // The length of what was taken out, whether it is the car's telemetry, and its words.
-fn say_out(car: u8, answer: Out, out: &[u8]) {
+fn say_out(car: u8, answer: Result<usize, Refusal>, out: &[u8]) {
     match answer {
-        Out::Refused(number) => say_refused(number),
-        Out::Datagram(n) => {
+        Err(refusal) => say_refused(refusal),
+        Ok(n) => {
             say_number(n as u64);
             say(b" bytes, as sent:");
             say_yes(cars::is_telemetry(car, part::front(out, n)));
@@ -102,8 +102,7 @@ fn say_slot(s: Slot) {
 // Which car is in each slot. The table stays.
 fn slots(t: [Slot; 8]) -> [Slot; 8] {
     say(b"slots:");
-    for i in 0..8 {
-        let s = t[i];
+    for s in t {
         say_slot(s);
     }
     say(b"\n");
@@ -115,18 +114,15 @@ fn zero(t: [Slot; 8], payloads: &[u8], maps: &[u8]) -> [Slot; 8] {
     let no_payloads = [0u8; 65536];
     let no_maps = [0u8; 1024];
     say(b"payloads and maps zero:");
-    say_yes(same(payloads, &no_payloads));
-    say_yes(same(maps, &no_maps));
+    say_yes(payloads == &no_payloads[..]);
+    say_yes(maps == &no_maps[..]);
     say(b"\n");
     t
 }
 
 // The byte at a place, 0 past the end.
 fn byte(s: &[u8], i: usize) -> u8 {
-    if i < s.len() {
-        return s[i];
-    }
-    0
+    s.get(i).copied().unwrap_or(0)
 }
 
 // The digit at a place.

@@ -1,5 +1,6 @@
 // What is written: words, numbers and answers.
-use table::{Gone, Stepped};
+use assembly::Outcome;
+use pkt::refusal::Refusal;
 
 const STDOUT_FILENO: i32 = 1;
 
@@ -12,24 +13,24 @@ pub(crate) fn say_number(n: u64) {
     io::print_decimal(STDOUT_FILENO, n);
 }
 
-pub(crate) fn say_refused(number: u8) {
+pub(crate) fn say_refused(refusal: Refusal) {
     say(b" refused");
-    say_number(number as u64);
+    say_number(refusal.number() as u64);
 }
 
-pub(crate) fn say_stepped(answer: Stepped) {
+pub(crate) fn say_stepped(answer: Result<Outcome, Refusal>) {
     match answer {
-        Stepped::Waiting => say(b" waiting"),
-        Stepped::Complete => say(b" complete"),
-        Stepped::Spoilt => say(b" spoilt"),
-        Stepped::Refused(number) => say_refused(number),
+        Ok(Outcome::Waiting) => say(b" waiting"),
+        Ok(Outcome::Complete) => say(b" complete"),
+        Ok(Outcome::Spoilt) => say(b" spoilt"),
+        Err(refusal) => say_refused(refusal),
     }
 }
 
-pub(crate) fn say_gone(answer: Gone) {
+pub(crate) fn say_gone(answer: Result<(), Refusal>) {
     match answer {
-        Gone::Done => say(b" done"),
-        Gone::Refused(number) => say_refused(number),
+        Ok(()) => say(b" done"),
+        Err(refusal) => say_refused(refusal),
     }
 }
 

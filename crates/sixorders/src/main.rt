@@ -3,10 +3,11 @@
 
 mod options;
 
-use assembly::{Key, Opened, Progress, Rec, Taken, Total};
+use assembly::{Key, Outcome, Progress, Rec, Taken};
 use ezpkt::build::{IcmpEcho, Request, TcpSegment, UdpDatagram};
 use ezpkt::ip4::Template;
 use ezpkt::{Marks, build, ip4, part};
+use pkt::refusal::Refusal;
 
 const STDOUT_FILENO: i32 = 1;
 
@@ -23,33 +24,37 @@ fn say_number(n: u64) {
     io::print_decimal(STDOUT_FILENO, n);
 }
 
-fn say_refused(number: u8) {
+fn say_refused(refusal: Refusal) {
     say(b" refused");
-    say_number(number as u64);
+    say_number(refusal.number() as u64);
 }
 
-fn say_taken(taken: Taken) {
+fn say_outcome(outcome: Outcome) {
+    match outcome {
+        Outcome::Waiting => say(b" waiting"),
+        Outcome::Complete => say(b" complete"),
+        Outcome::Spoilt => say(b" spoilt"),
+    }
+}
+
+fn say_taken(taken: Result<Taken, Refusal>) {
     match taken {
-        Taken::Waiting(_) => say(b" waiting"),
-        Taken::Complete(_) => say(b" complete"),
-        Taken::Spoilt(_) => say(b" spoilt"),
-        Taken::Refused(number) => say_refused(number),
+        Ok(taken) => say_outcome(taken.answer),
+        Err(refusal) => say_refused(refusal),
     }
 }
 
 // The record after a call: on a refusal the one before it.
-fn kept(rec: Rec, taken: Taken) -> Rec {
+fn kept(rec: Rec, taken: Result<Taken, Refusal>) -> Rec {
     match taken {
-        Taken::Waiting(next) => next,
-        Taken::Complete(next) => next,
-        Taken::Spoilt(next) => next,
-        Taken::Refused(_) => rec,
+        Ok(taken) => taken.rec,
+        Err(_) => rec,
     }
 }
 
 // A complete datagram: as many of the payload buffer's first bytes as `progress` answers.
-fn say_held(progress: Progress, payload: &[u8]) {
-    if let Progress::Complete(n) = progress {
+fn say_held(progress: Result<Progress, Refusal>, payload: &[u8]) {
+    if let Ok(Progress::Complete(n)) = progress {
         if n <= payload.len() {
             say(b", holds ");
             say(&payload[0..n]);
@@ -91,7 +96,7 @@ fn template() -> Template {
 // Builds piece (off, 1) of twenty bytes and hands it in, with what stands behind it in its buffer.
 fn hand(rec: Rec, off: u16, payload: &mut [u8], map: &mut [u8]) -> Rec {
     let mut out = [0u8; 40];
-    ip4::fragment(template(), b"01234567890123456789", off, 1, &mut out);
+    let _ = ip4::fragment(template(), b"01234567890123456789", off, 1, &mut out);
     let taken = assembly::take(rec, &out, payload, map);
     say_taken(taken);
     kept(rec, taken)
@@ -107,8 +112,8 @@ fn order(a: u16, b: u16, c: u16) {
     say_number(c as u64);
     say(b":");
     match assembly::open(key(), &mut payload, &mut map) {
-        Opened::Refused(number) => say_refused(number),
-        Opened::Open(rec) => {
+        Err(refusal) => say_refused(refusal),
+        Ok(rec) => {
             let one = hand(rec, a, &mut payload, &mut map);
             let two = hand(one, b, &mut payload, &mut map);
             let three = hand(two, c, &mut payload, &mut map);
@@ -133,8 +138,8 @@ fn first(packet: &[u8]) {
     let mut payload = [0u8; 65515];
     let mut map = [0u8; 1024];
     match assembly::open(key(), &mut payload, &mut map) {
-        Opened::Refused(number) => say_refused(number),
-        Opened::Open(rec) => say_taken(assembly::take(rec, packet, &mut payload, &mut map)),
+        Err(refusal) => say_refused(refusal),
+        Ok(rec) => say_taken(assembly::take(rec, packet, &mut payload, &mut map)),
     }
     say(b"\n");
 }
@@ -153,13 +158,13 @@ fn segment(saddr: u32, frag_off: u16) -> [u8; 41] {
         marks: Marks::default(),
     });
     let mut out = [0u8; 41];
-    build::build(request, b"!", &mut out);
+    let _ = build::build(request, b"!", &mut out);
     out
 }
 
 fn empty() {
     let mut out = [0u8; 20];
-    ip4::fragment(template(), b"", 0, 0, &mut out);
+    let _ = ip4::fragment(template(), b"", 0, 0, &mut out);
     say(b"all of no bytes:");
     first(&out);
 }
@@ -169,14 +174,14 @@ fn sizes() {
     let mut map = [0u8; 1023];
     say(b"a map of 1,023 bytes:");
     match assembly::open(key(), &mut payload, &mut map) {
-        Opened::Refused(number) => say_refused(number),
-        Opened::Open(_) => say(b" open"),
+        Err(refusal) => say_refused(refusal),
+        Ok(_) => say(b" open"),
     }
     say(b"\n");
 }
 
 // Hands a segment to an assembly with this total and floor.
-fn record(total: Total, floor: usize) {
+fn record(total: Option<usize>, floor: usize) {
     let mut payload = [0u8; 65515];
     let mut map = [0u8; 1024];
     let rec = Rec {
@@ -192,11 +197,11 @@ fn record(total: Total, floor: usize) {
 
 fn records() {
     say(b"total 65,516:");
-    record(Total::Known(65516), 0);
+    record(Some(65516), 0);
     say(b"floor 65,514:");
-    record(Total::Unknown, 65514);
+    record(None, 65514);
     say(b"floor 65,513:");
-    record(Total::Unknown, 65513);
+    record(None, 65513);
 }
 
 fn cut_short() {
@@ -281,7 +286,7 @@ fn ping() -> [u8; 52] {
         marks: Marks::default(),
     });
     let mut out = [0u8; 52];
-    build::build(request, b"a ping between two hosts", &mut out);
+    let _ = build::build(request, b"a ping between two hosts", &mut out);
     out
 }
 
@@ -296,7 +301,7 @@ fn lap() -> [u8; 52] {
         marks: Marks::default(),
     });
     let mut out = [0u8; 52];
-    build::build(request, b"a lap between two points", &mut out);
+    let _ = build::build(request, b"a lap between two points", &mut out);
     out
 }
 
@@ -311,7 +316,7 @@ fn datagram(protocol: u8) -> [u8; 52] {
 fn piece_of(protocol: u8, off: u16, len: u16) -> [u8; 36] {
     let whole = datagram(protocol);
     let mut out = [0u8; 36];
-    ip4::fragment(
+    let _ = ip4::fragment(
         template_of(protocol),
         part::back(&whole, 20),
         off,
@@ -329,8 +334,8 @@ fn hand_piece(rec: Rec, protocol: u8, off: u16, payload: &mut [u8], map: &mut [u
 }
 
 // What a complete datagram carries behind its 8 bytes of header.
-fn say_data(progress: Progress, payload: &[u8]) {
-    if let Progress::Complete(n) = progress {
+fn say_data(progress: Result<Progress, Refusal>, payload: &[u8]) {
+    if let Ok(Progress::Complete(n)) = progress {
         say(b", holds ");
         say(part::back(part::front(payload, n), 8));
     }
@@ -341,8 +346,8 @@ fn mixed(protocol: u8) {
     let mut payload = [0u8; 65515];
     let mut map = [0u8; 1024];
     match assembly::open(key_of(protocol), &mut payload, &mut map) {
-        Opened::Refused(number) => say_refused(number),
-        Opened::Open(rec) => {
+        Err(refusal) => say_refused(refusal),
+        Ok(rec) => {
             let one = hand_piece(rec, 1, 0, &mut payload, &mut map);
             let two = hand_piece(one, 17, 2, &mut payload, &mut map);
             let three = hand_piece(two, 17, 0, &mut payload, &mut map);

@@ -1,6 +1,7 @@
 // A lap in three pieces, with router alert on some of them, in every order.
 use crate::{first, kept, key_of, piece_of, say, say_data, say_number, say_taken};
-use assembly::{Opened, Rec, Taken, Total};
+use assembly::{Rec, Taken};
+use pkt::refusal::Refusal;
 
 // The lap's piece at block 0, 1 or 2, with router alert: a block, and eight bytes that do not count; the last has two blocks.
 fn alerted(off: u16) -> [u8; 40] {
@@ -33,7 +34,7 @@ fn take_lap(
     off: u16,
     payload: &mut [u8; 65515],
     map: &mut [u8; 1024],
-) -> Taken {
+) -> Result<Taken, Refusal> {
     if has_alert(choice, off) {
         let longer = alerted(off);
         return assembly::take(rec, &longer, payload, map);
@@ -57,15 +58,14 @@ fn hand_lap(
 
 // The lap's assembly, opened.
 fn opened(payload: &mut [u8; 65515], map: &mut [u8; 1024]) -> Rec {
-    match assembly::open(key_of(17), payload, map) {
-        Opened::Open(rec) => rec,
-        Opened::Refused(_) => Rec {
-            key: key_of(17),
-            total: Total::Unknown,
-            floor: 0,
-            spoilt: true,
-        },
-    }
+    let key = key_of(17);
+    let none = Rec {
+        key,
+        total: None,
+        floor: 0,
+        spoilt: true,
+    };
+    assembly::open(key, payload, map).unwrap_or(none)
 }
 
 // The three pieces in an order, and the record then.
@@ -81,36 +81,6 @@ fn three(
     let one = hand_lap(rec, choice, a, payload, map);
     let two = hand_lap(one, choice, b, payload, map);
     hand_lap(two, choice, c, payload, map)
-}
-
-// A total as a number: no lap has 0 bytes.
-fn size(total: Total) -> usize {
-    match total {
-        Total::Known(n) => n,
-        Total::Unknown => 0,
-    }
-}
-
-// Whether two records for the lap's key are the same.
-fn same_rec(a: Rec, b: Rec) -> bool {
-    let t = a.total;
-    let u = b.total;
-    size(t) == size(u) && a.floor == b.floor && a.spoilt == b.spoilt
-}
-
-// The byte at a place, or 0 past the end.
-fn byte_at(s: &[u8], at: usize) -> u8 {
-    if at < s.len() { s[at] } else { 0 }
-}
-
-// Whether b begins with a.
-fn same(a: &[u8], b: &[u8]) -> bool {
-    for i in 0..a.len() {
-        if a[i] != byte_at(b, i) {
-            return false;
-        }
-    }
-    true
 }
 
 // Where router alert is.
@@ -137,8 +107,8 @@ fn say_order(choice: u8, a: u16, b: u16, c: u16) {
 }
 
 // Whether two payload buffers and two maps are the same.
-fn same_bytes(p: &[u8; 65515], q: &[u8; 65515], m: &[u8; 1024], n: &[u8; 1024]) -> bool {
-    same(p, q) && same(m, n)
+fn same_bytes(p: &[u8], q: &[u8], m: &[u8], n: &[u8]) -> bool {
+    p == q && m == n
 }
 
 // Whether a state is that without router alert.
@@ -166,7 +136,7 @@ fn beside(choice: u8, a: u16, b: u16, c: u16) {
     let rec = three(choice, a, b, c, &mut payload, &mut map);
     say(b", without it:");
     let plain = three(0, a, b, c, &mut other, &mut marks);
-    say_same(same_rec(rec, plain) && same_bytes(&payload, &other, &map, &marks));
+    say_same(rec == plain && same_bytes(&payload, &other, &map, &marks));
     say_lap(rec, &payload, &map);
 }
 
