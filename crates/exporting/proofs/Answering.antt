@@ -8,41 +8,21 @@ use mathlib.Core.List.{List, [], ◌∷◌, ◌++◌, append-nil, append_assoc}
 use lib.ListN.{length, drop, length-append}
 use lib.Dec.{ltb}
 use borrow.Author.Tests.{ltb-true, ltb-false, lt-ltb}
+use Rattle.std.specs.Prelude.{None}
 use Rattle.pkt.specs.Answers.{ListAnswer, refused_whole, refused_at, gives_all}
 use Rattle.pkt.proofs.Choice.{pick_yes, pick_no}
 use Rattle.pcap.specs.Answers.{most_micros}
 use Rattle.pcap.specs.Pcap.{file_header}
 use Rattle.pcap.specs.Read.{number, Recorded, Records, records_of}
-use Rattle.reading.specs.Reading.{starts_with, header_size, open_at, Next, ended, step_says, step_at, more_at, past_at}
+use Rattle.reading.specs.Reading.{starts_with, header_size, open_at, Next, step_at, more_at, past_at}
 use Rattle.reading.specs.Ends.{records_answer}
-use Rattle.reading.specs.declared.Step.{Step}
-use Rattle.reading.specs.declared.Step.TheVariants as step
 use Rattle.reading.proofs.Broken.{broken_no, more_yes}
 use Rattle.reading.proofs.Ending.{there_found, spot_within}
 use Rattle.exporting.specs.Pcapng.{block, section_block, interface_block, packet_block, packet_blocks, exported}
-use Rattle.exporting.specs.Export.{exported_says, unless_late, room_for, answer_for, export_answer}
+use Rattle.exporting.specs.Export.{unless_late, room_for, answer_for, export_answer}
 use Rattle.exporting.specs.Steps.{block_size, head_size, timely, with_record, with_step, ended_by, StepShort}
-use Rattle.exporting.specs.declared.Exported.{Exported}
-use Rattle.exporting.specs.declared.Exported.TheVariants.{Written, Refused}
 use Rattle.exporting.proofs.Laying.{block_length, here_length}
 use Rattle.exporting.proofs.Walking.{Walk, walk_start, record_here, walk_next, walk_end}
-
--- ---- one record more, by the answer before it
-
-pub refused_more : (a : Exported) (k usec n room x : ℕ) → a ≡ Refused x → timely k usec (exported_says a) ≡ with_record (exported_says a) k usec n room
-refused_more a k usec n room x e = rw e refl
-
-pub written_more : (a f : Exported) (k usec n room size : ℕ) → a ≡ Written size → exported_says f ≡ room_for (size + block_size n) room
-    → timely k usec (exported_says f) ≡ with_record (exported_says a) k usec n room
-written_more a f k usec n room size e s = rw (e, s) refl
-
--- ---- a refusal of the last step is the answer
-
-pub header_refused : (s : Step) (a : Exported) (x : ℕ) → s ≡ step.Refused x → refused_whole x ≡ ended_by (step_says s) (exported_says a)
-header_refused s a x e = rw e refl
-
-pub record_refused : (s : Step) (a : Exported) (x i : ℕ) → s ≡ step.RefusedAt x i → refused_at x i ≡ ended_by (step_says s) (exported_says a)
-record_refused s a x i e = rw e refl
 
 -- ---- the answer for some records, and for one more
 
@@ -208,7 +188,7 @@ at_end l at count a room none (inr b) = go (walk_end l at b.done b.rest b.header
     step_is : step_at l at count ≡ step_at l at (length b.done)
     step_is = ap (step_at l at) b.counted
 
-    go : ((step_at l at (length b.done) ≡ gives_all ended) × (records_answer l ≡ gives_all b.done))
+    go : ((step_at l at (length b.done) ≡ gives_all None) × (records_answer l ≡ gives_all b.done))
         ⊎ ((step_at l at (length b.done) ≡ refused_at 25 (length b.done)) × (records_answer l ≡ refused_at 25 (length b.done)))
         → ended_by (step_at l at count) a ≡ export_answer l room
     go (inl (s, e)) = rw (step_is ∙ s, e) b.says

@@ -9,6 +9,7 @@ use lib.ListN.{length, take, drop, length-append, length-drop}
 use lib.Seq.{take_at, length-take-le, get_or-drop, drop-drop}
 use lib.Dec.{ltb, eqb}
 use borrow.Author.Tests.{ltb-false}
+use Rattle.std.specs.Prelude.{Ok}
 use Rattle.pkt.specs.Answers.{ListAnswer, refused_whole, refused_at, gives_all, plainly}
 use Rattle.pkt.specs.Fields.{Bytes}
 use Rattle.pkt.specs.Written.{written, leaves}
@@ -23,7 +24,6 @@ use Rattle.exporting.specs.Pcapng.{block, section_block, interface_block, micros
 use Rattle.exporting.specs.Read.{items_in, items_of, resolution, records_back}
 use Rattle.exporting.specs.Export.{unless_late, answer_for, records_given, Exports}
 use Rattle.exporting.specs.Back.{Timed, AllTimed, as_packet, as_items, Back, ReadsBack}
-use Rattle.exporting.specs.declared.Exported.TheVariants.{Written}
 use Rattle.exporting.proofs.Answering.{room_given}
 use Rattle.exporting.proofs.Block.{section_read, interface_read, packet_read}
 
@@ -147,7 +147,7 @@ answered_whole l rs e = go (starts_with file_header l) refl (records_of (drop he
     go true p (whole ss) x = let same : gives_all rs ≡ gives_all ss = sym e ∙ pick_yes _ _ p ∙ ap all_of x in x ∙ sym (cc same)
 
 -- What a call wrote is the export of the capture's records, and those have times.
-calls_back : (l o o' : List ℕ) (n : ℕ) → Bytes l → Exports l o (Written n) o' → Back l o' n
+calls_back : (l o o' : List ℕ) (n : ℕ) → Bytes l → Exports l o (Ok n) o' → Back l o' n
 unfolding written
 calls_back l o o' n b m = go (records_answer l) refl m.answer m.after
   where

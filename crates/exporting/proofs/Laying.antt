@@ -1,20 +1,39 @@
 -- A packet's block is its head, the packet, and its tail.
 use mathlib.Core.Path.{◌≡◌, refl, sym, ap, ◌∙◌}
-use Prim.Native.Nat.{ℕ, zero, suc, ◌+◌, ◌-◌, ◌≤◌}
+use Prim.Native.Nat.{ℕ, zero, suc, ◌+◌, ◌-◌, ◌/◌, ◌%◌, ◌≤◌}
 use native.Mathlib.Omega.{arith}
 use mathlib.Core.Bool.{true}
-use mathlib.Core.List.{List, ◌++◌, append_assoc}
-use lib.ListN.{length, take, drop, length-append, length-replicate, length-drop}
+use mathlib.Core.List.{List, [], ◌∷◌, ◌++◌, append_assoc}
+use lib.ListN.{length, get_or, take, drop, length-append, length-replicate, length-drop}
 use lib.Seq.{take_all, length-take-le}
+use Rattle.std.specs.Int.{w32, to_le_bytes}
+use Rattle.std.specs.Prelude.{Result, Ok, Some}
+use Rattle.pkt.specs.Answers.{list_says}
+use Rattle.pkt.specs.declared.refusal.ListRefusal.{ListRefusal}
 use Rattle.pkt.specs.Written.{zeros}
 use Rattle.pcap.specs.Pcap.{le}
 use Rattle.pcap.specs.Read.{number}
-use Rattle.reading.specs.Reading.{more_at}
+use Rattle.pcap.proofs.Pcap.{le_four}
+use Rattle.reading.specs.Reading.{Next, more_at}
 use Rattle.reading.specs.Steps.{recorded_at}
 use Rattle.reading.specs.declared.Spot.{Spot}
 use Rattle.reading.proofs.Ending.{spot_within}
-use Rattle.exporting.specs.Pcapng.{block, padding, packet_block}
-use Rattle.exporting.specs.Steps.{block_size, packet_head, packet_tail, record_with}
+use Rattle.exporting.specs.Pcapng.{block, micros_of, padding, packet_block}
+use Rattle.exporting.specs.Steps.{block_size, packet_head, packet_tail, record_with, step_block}
+
+-- The bytes of a block's head, and those of its tail.
+pub head_is : (sec usec n original size : ℕ) (s h l d o : List ℕ) → s ≡ to_le_bytes w32 size → h ≡ to_le_bytes w32 (micros_of sec usec / 4294967296)
+    → l ≡ to_le_bytes w32 (micros_of sec usec % 4294967296) → d ≡ to_le_bytes w32 n → o ≡ to_le_bytes w32 original
+    → 6 ∷ 0 ∷ 0 ∷ 0 ∷ get_or s 0 0 ∷ get_or s 1 0 ∷ get_or s 2 0 ∷ get_or s 3 0 ∷ 0 ∷ 0 ∷ 0 ∷ 0 ∷ get_or h 0 0 ∷ get_or h 1 0 ∷ get_or h 2 0 ∷ get_or h 3 0
+    ∷ get_or l 0 0 ∷ get_or l 1 0 ∷ get_or l 2 0 ∷ get_or l 3 0 ∷ get_or d 0 0 ∷ get_or d 1 0 ∷ get_or d 2 0 ∷ get_or d 3 0
+    ∷ get_or o 0 0 ∷ get_or o 1 0 ∷ get_or o 2 0 ∷ get_or o 3 0 ∷ [] ≡ packet_head sec usec n original size
+unfolding packet_head
+head_is sec usec n original size s h l d o p q r t u = rw (p ∙ le_four _, q ∙ le_four _, r ∙ le_four _, t ∙ le_four _, u ∙ le_four _)
+
+pub tail_bytes : (size : ℕ) (s : List ℕ) → s ≡ to_le_bytes w32 size
+    → 0 ∷ 0 ∷ 0 ∷ get_or s 0 0 ∷ get_or s 1 0 ∷ get_or s 2 0 ∷ get_or s 3 0 ∷ [] ≡ packet_tail size
+unfolding packet_tail
+tail_bytes size s p = rw (p ∙ le_four size)
 
 -- Up to three zeros pad the data.
 pub padding_few : (n : ℕ) → padding n ≤ 3
@@ -81,19 +100,18 @@ block_length sec usec original d =
 
 -- ---- the record that a step found
 
--- As it is lent, it is the record,
+-- The block of the step is that of the record.
+pub step_laid : (l : List ℕ) (step : Result Next ListRefusal) (o : Next) (s : Spot) → step ≡ Ok o → o ≡ Some s
+    → step_block l (list_says step) ≡ packet_block (recorded_at l s)
+step_laid l step o s p q = rw (p, q)
+
+-- As it is lent, it is the record.
 pub lent_record : (l : List ℕ) (s : Spot) → record_with s.sec s.usec s.original (take (s.start + s.len - s.start) (drop s.start l)) ≡ recorded_at l s
 lent_record l s =
     let e : s.start + s.len - s.start ≡ s.len = omega arith in
     ap (λ (n : ℕ). record_with s.sec s.usec s.original (take n (drop s.start l))) e
 
--- and as long as it says.
-pub lent_length : (l : List ℕ) (s : Spot) → s.start + s.len ≤ length l → length (take (s.start + s.len - s.start) (drop s.start l)) ≡ s.len
-lent_length l s h =
-    let e : s.start + s.len - s.start ≡ s.len = omega arith in
-    ap (λ (n : ℕ). length (take n (drop s.start l))) e ∙ length-take-le s.len (drop s.start l) (omega (arith, length-drop s.start l))
-
--- So is the one at a place where a whole record stands.
+-- A whole record at a place, as it is lent, is as long as it says.
 pub here_length : (l : List ℕ) (at : ℕ) → more_at l at ≡ true → length (take (number 4 8 (drop at l)) (drop (at + 16) l)) ≡ number 4 8 (drop at l)
 here_length l at more =
     length-take-le (number 4 8 (drop at l)) (drop (at + 16) l) (omega (arith, length-drop (at + 16) l, (spot_within l at more).0))

@@ -4,4 +4,3 @@ pub mod Answering
 pub mod Block
 pub mod Back
 pub mod Writing
-pub mod Only

@@ -6,11 +6,12 @@ use mathlib.Core.Bool.{true, false, true≢false}
 use mathlib.Core.Logic.{◌⊎◌, inl, inr}
 use mathlib.Core.List.{List, [], ◌∷◌, ◌++◌, append-nil}
 use lib.ListN.{length, drop, length-append}
+use Rattle.std.specs.Prelude.{None}
 use Rattle.pkt.specs.Answers.{refused_at, gives_all}
 use Rattle.pkt.proofs.Choice.{pick_yes}
 use Rattle.pcap.specs.Pcap.{file_header}
 use Rattle.pcap.specs.Read.{Recorded, Records, whole, broken_after, in_front, records_of}
-use Rattle.reading.specs.Reading.{starts_with, header_size, open_at, ended, spot_at, step_at, more_at, past_at}
+use Rattle.reading.specs.Reading.{starts_with, header_size, open_at, spot_at, step_at, more_at, past_at}
 use Rattle.reading.specs.Steps.{recorded_at, Steps, ends, breaks, goes}
 use Rattle.reading.specs.Ends.{all_of, records_answer}
 use Rattle.reading.specs.declared.Spot.{Spot}
@@ -78,7 +79,7 @@ walk_next l at done rest more w = go w.steps w.all
 
 -- Where none stands there, it is at the end, or at a record that is broken; and all records are behind it.
 pub walk_end : (l : List ℕ) (at : ℕ) (done : List Recorded) (rest : Records) → starts_with file_header l ≡ true → more_at l at ≡ false → Walk l at done rest
-    → ((step_at l at (length done) ≡ gives_all ended) × (records_answer l ≡ gives_all done))
+    → ((step_at l at (length done) ≡ gives_all None) × (records_answer l ≡ gives_all done))
     ⊎ ((step_at l at (length done) ≡ refused_at 25 (length done)) × (records_answer l ≡ refused_at 25 (length done)))
 walk_end l at done rest header none w = go w.steps w.all
   where
@@ -86,7 +87,7 @@ walk_end l at done rest header none w = go w.steps w.all
     read = pick_yes _ _ header
 
     go : {rest : Records} → Steps l at (length done) rest → joined done rest ≡ records_of (drop header_size l)
-        → ((step_at l at (length done) ≡ gives_all ended) × (records_answer l ≡ gives_all done))
+        → ((step_at l at (length done) ≡ gives_all None) × (records_answer l ≡ gives_all done))
         ⊎ ((step_at l at (length done) ≡ refused_at 25 (length done)) × (records_answer l ≡ refused_at 25 (length done)))
     go (ends _ _ e) all = inl (e, read ∙ ap all_of (sym all ∙ joined_whole done [] ∙ ap whole (append-nil done)))
     go (breaks _ _ e) all = inr (e, read ∙ ap all_of (sym all ∙ joined_broken done [] ∙ ap broken_after (append-nil done)))

@@ -7,14 +7,15 @@ use mathlib.Core.Logic.{◌⊎◌, inl, inr}
 use mathlib.Core.List.{List, [], ◌∷◌, ◌++◌, append_assoc}
 use lib.ListN.{length, drop, length-append}
 use borrow.Rule.Slice.PartMut.{mid_of, put_mid}
-use Rattle.pkt.specs.Answers.{ListAnswer, refused_whole, refused_at, gives_all, plainly}
-use Rattle.pkt.specs.Written.{written, leaves}
+use Rattle.std.specs.Prelude.{None}
+use Rattle.pkt.specs.Answers.{ListAnswer, refused_at, gives_all}
+use Rattle.pkt.specs.Written.{written}
 use Rattle.pkt.proofs.Parts.{mid_length}
 use Rattle.pkt.proofs.Written.{written_behind, written_length}
 use Rattle.pkt.proofs.Choice.{pick_no}
 use Rattle.pcap.specs.Pcap.{file_header}
 use Rattle.pcap.specs.Read.{number, Recorded, Records, whole, broken_after, in_front}
-use Rattle.reading.specs.Reading.{starts_with, open_at, ended, step_at, more_at, past_at}
+use Rattle.reading.specs.Reading.{starts_with, open_at, step_at, more_at, past_at}
 use Rattle.reading.specs.Ends.{records_answer}
 use Rattle.reading.proofs.Broken.{broken_no, more_yes}
 use Rattle.reading.proofs.Ending.{there_found, spot_within}
@@ -142,7 +143,7 @@ pub at_end : (l o₀ o : List ℕ) (read at : ℕ) → more_at l read ≡ false 
     → o ≡ written (packet_blocks (records_given (records_answer l))) o₀
 at_end l o₀ o read at none asks f = go (walk_end l read f.done (whole f.left) f.header none f.walk)
   where
-    go : ((step_at l read (length f.done) ≡ gives_all ended) × (records_answer l ≡ gives_all f.done))
+    go : ((step_at l read (length f.done) ≡ gives_all None) × (records_answer l ≡ gives_all f.done))
         ⊎ ((step_at l read (length f.done) ≡ refused_at 25 (length f.done)) × (records_answer l ≡ refused_at 25 (length f.done)))
         → o ≡ written (packet_blocks (records_given (records_answer l))) o₀
     go (inl (s, e)) = f.bytes ∙ ap (λ (a : ListAnswer (List Recorded)). written (packet_blocks (records_given a)) o₀) (sym e)
@@ -177,13 +178,3 @@ pub accepted : (l o : List ℕ) (n : ℕ) → gives_all n ≡ export_answer l (l
 accepted l o n e =
     let g = given (records_answer l) (length o) n (sym e) in
     record { records = g.records; read = g.read; fits = omega (arith, g.size, g.fits) }
-
--- What a call leaves that is answered with a size, and one that is refused.
-pub accepted_after : (a : ListAnswer ℕ) (n : ℕ) (x o o' : List ℕ) → gives_all n ≡ a → o' ≡ written x o → o' ≡ leaves (plainly a) x o
-accepted_after a n x o o' e w = w ∙ ap (λ (b : ListAnswer ℕ). leaves (plainly b) x o) e
-
-pub refused_after : (a : ListAnswer ℕ) (n : ℕ) (x o : List ℕ) → refused_whole n ≡ a → o ≡ leaves (plainly a) x o
-refused_after a n x o e = ap (λ (b : ListAnswer ℕ). leaves (plainly b) x o) e
-
-pub refused_at_after : (a : ListAnswer ℕ) (n k : ℕ) (x o : List ℕ) → refused_at n k ≡ a → o ≡ leaves (plainly a) x o
-refused_at_after a n k x o e = ap (λ (b : ListAnswer ℕ). leaves (plainly b) x o) e

@@ -1,5 +1,5 @@
 -- What is read back: document 02, T-14, "Reading the blocks back gives the same times and packets, and this is proved over any number of records."
-use Rattle.std.specs.Prelude.{ℕ, ◌^◌, ◌≤◌, ◌<◌, ◌≡◌, List, [], ◌∷◌, map, length, take}
+use Rattle.std.specs.Prelude.{ℕ, ◌^◌, ◌≤◌, ◌<◌, ◌≡◌, List, [], ◌∷◌, map, length, take, Ok}
 use Rattle.pkt.specs.Answers.{gives_all, most_bytes}
 use Rattle.pkt.specs.Fields.{Bytes}
 use Rattle.pcap.specs.Answers.{most_micros}
@@ -8,7 +8,6 @@ use Rattle.reading.specs.Ends.{records_answer}
 use Rattle.exporting.specs.Pcapng.{micros, exported}
 use Rattle.exporting.specs.Read.{Item, section, interface, packet, items_of, records_back}
 use Rattle.exporting.specs.Export.{Exports}
-use Rattle.exporting.specs.declared.Exported.TheVariants.{Written}
 
 -- a record as a capture has it, with a time that is one: seconds and original length of 32 bits, microseconds up to 999,999, at most 65,535 bytes
 pub record Timed (r : Recorded) : Type 0 where
@@ -44,4 +43,4 @@ pub record ReadsBack : Type 0 where
   -- and so are the records.
   pub records : (rs : List Recorded) → AllTimed rs → records_back (items_of (exported rs)) ≡ rs
   -- So with what a call wrote, of any capture.
-  pub calls : (l o o' : List ℕ) (n : ℕ) → Bytes l → Exports l o (Written n) o' → Back l o' n
+  pub calls : (l o o' : List ℕ) (n : ℕ) → Bytes l → Exports l o (Ok n) o' → Back l o' n

@@ -1,18 +1,12 @@
 -- A classic capture, exported: document 02, T-14.
-use Rattle.std.specs.Prelude.{ℕ, suc, cond, List, [], ◌∷◌, length, ltb}
-use Rattle.pkt.specs.Answers.{ListAnswer, refused_whole, refused_at, gives_all, plainly}
+use Rattle.std.specs.Prelude.{ℕ, suc, cond, List, [], ◌∷◌, length, ltb, Result}
+use Rattle.pkt.specs.Answers.{ListAnswer, refused_whole, refused_at, gives_all, plainly, list_says}
 use Rattle.pkt.specs.Written.{leaves, Promise}
 use Rattle.pcap.specs.Answers.{most_micros}
 use Rattle.pcap.specs.Read.{Recorded}
 use Rattle.reading.specs.Ends.{records_answer}
 use Rattle.exporting.specs.Pcapng.{exported}
-use Rattle.exporting.specs.declared.Exported.{Exported}
-use Rattle.exporting.specs.declared.Exported.TheVariants as export
-
-abbrev pub exported_says : Exported → ListAnswer ℕ
-exported_says (export.Written n) = gives_all n
-exported_says (export.Refused n) = refused_whole n
-exported_says (export.RefusedAt n k) = refused_at n k
+use Rattle.pkt.specs.declared.refusal.ListRefusal.{ListRefusal}
 
 -- "then 17 with the record number": an answer, unless the microseconds of a record, of those from the k-th on, are above 999,999: the first such
 unfoldable pub unless_late : ℕ → List Recorded → ListAnswer ℕ → ListAnswer ℕ
@@ -43,7 +37,7 @@ abbrev pub export_of : List ℕ → List ℕ
 export_of l = exported (records_given (records_answer l))
 
 -- The call's whole promise: the one answer, and the pcapng file at the start of the output o; on a refusal nothing is written.
-abbrev pub Exports : List ℕ → List ℕ → Exported → List ℕ → Type 0
+abbrev pub Exports : List ℕ → List ℕ → Result ℕ ListRefusal → List ℕ → Type 0
 Exports l o r o' =
     let a : ListAnswer ℕ = export_answer l (length o) in
-    Promise exported_says a (leaves (plainly a) (export_of l) o) r o'
+    Promise list_says a (leaves (plainly a) (export_of l) o) r o'

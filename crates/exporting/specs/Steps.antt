@@ -1,11 +1,11 @@
 -- One record of an export: what inner functions promise.
-use Rattle.std.specs.Prelude.{ℕ, ◌+◌, ◌/◌, ◌%◌, ◌^◌, ◌≤◌, ◌≡◌, cond, List, [], ◌++◌, length, ltb}
+use Rattle.std.specs.Prelude.{ℕ, ◌+◌, ◌/◌, ◌%◌, ◌^◌, ◌≤◌, ◌≡◌, cond, List, [], ◌++◌, length, ltb, Some, None}
 use Rattle.pkt.specs.Answers.{ListAnswer, refused_whole, refused_at, gives_all, most_bytes}
 use Rattle.pkt.specs.Written.{zeros}
 use Rattle.pcap.specs.Answers.{most_micros}
 use Rattle.pcap.specs.Pcap.{le}
 use Rattle.pcap.specs.Read.{Recorded}
-use Rattle.reading.specs.Reading.{Next, ended, found}
+use Rattle.reading.specs.Reading.{Next}
 use Rattle.reading.specs.Steps.{recorded_at}
 use Rattle.reading.specs.Ends.{records_answer}
 use Rattle.reading.specs.declared.Spot.{Spot}
@@ -32,8 +32,8 @@ with_record (gives_all size) k usec n room = timely k usec (room_for (size + blo
 
 -- .. where a step found it
 abbrev pub with_step : ListAnswer ℕ → ListAnswer Next → ℕ → ListAnswer ℕ
-with_step a (gives_all (found s)) room = with_record a s.number s.usec s.len room
-with_step a (gives_all ended) room = a
+with_step a (gives_all (Some s)) room = with_record a s.number s.usec s.len room
+with_step a (gives_all None) room = a
 with_step a (refused_whole x) room = a
 with_step a (refused_at x k) room = a
 
@@ -57,15 +57,15 @@ packet_tail size = zeros 3 ++ le 4 size
 
 -- the block of the record that a step found
 abbrev pub step_block : List ℕ → ListAnswer Next → List ℕ
-step_block l (gives_all (found s)) = packet_block (recorded_at l s)
-step_block l (gives_all ended) = []
+step_block l (gives_all (Some s)) = packet_block (recorded_at l s)
+step_block l (gives_all None) = []
 step_block l (refused_whole x) = []
 step_block l (refused_at x k) = []
 
 -- what is asked of a step that found a record: at most 65,535 bytes,
 abbrev pub StepShort : ListAnswer Next → Type 0
-StepShort (gives_all (found s)) = s.len ≤ most_bytes
-StepShort (gives_all ended) = Unit {0}
+StepShort (gives_all (Some s)) = s.len ≤ most_bytes
+StepShort (gives_all None) = Unit {0}
 StepShort (refused_whole x) = Unit {0}
 StepShort (refused_at x k) = Unit {0}
 
@@ -76,8 +76,8 @@ pub record BlockAsks (l : List ℕ) (s : Spot) (room : ℕ) : Type 0 where
   pub fits : block_size s.len ≤ room
 
 abbrev pub StepAsks : List ℕ → ListAnswer Next → ℕ → Type 0
-StepAsks l (gives_all (found s)) room = BlockAsks l s room
-StepAsks l (gives_all ended) room = Unit {0}
+StepAsks l (gives_all (Some s)) room = BlockAsks l s room
+StepAsks l (gives_all None) room = Unit {0}
 StepAsks l (refused_whole x) room = Unit {0}
 StepAsks l (refused_at x k) room = Unit {0}
 

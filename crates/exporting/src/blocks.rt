@@ -1,18 +1,19 @@
 // The blocks of a pcapng file, little-endian.
 ghost use Rattle.std.specs.Prelude.{◌≡◌, ◌++◌, ◌+◌, ◌≤◌, length};
-ghost use Rattle.pkt.specs.Answers.{most_bytes};
+ghost use Rattle.pkt.specs.Answers.{most_bytes, list_says};
 ghost use Rattle.pkt.specs.Written.{written};
-ghost use Rattle.reading.specs.Reading.{step_says};
 ghost use Rattle.exporting.specs.Pcapng.{padding, section_block, interface_block, packet_block};
 ghost use Rattle.exporting.specs.Steps.{block_size, packet_head, packet_tail, record_with, step_block, StepAsks};
 
 use pkt::copying::copy;
-use reading::Step;
+use pkt::refusal::ListRefusal;
+use reading::Spot;
 
 // The bytes of the two blocks before the packets.
 pub(crate) const HEAD: usize = 48;
 
 // The section header block, and behind it the interface description block.
+#[tactic(auto, unfolding(crate::specs::Pcapng::section_block, crate::specs::Pcapng::interface_block, crate::specs::Pcapng::block))]
 fn head() -> [u8; 48]
     ensures { result ≡ section_block ++ interface_block }
 {
@@ -33,6 +34,7 @@ fn head() -> [u8; 48]
 }
 
 // .. at the start of out.
+#[tactic(auto, using(pkt::proofs::Written::copy_written))]
 pub(crate) fn put_head(out: &mut [u8])
     requires { 48 ≤ length out.old }
     ensures { out.new ≡ written (section_block ++ interface_block) out.old }
@@ -42,6 +44,7 @@ pub(crate) fn put_head(out: &mut [u8])
 }
 
 // The zeros behind n bytes, up to a multiple of four.
+#[tactic(auto, unfolding(crate::specs::Pcapng::padding))]
 fn zeros(n: usize) -> usize
     ensures { result ≡ padding n }
 {
@@ -49,6 +52,7 @@ fn zeros(n: usize) -> usize
 }
 
 // The bytes of a block with a packet of n bytes.
+#[tactic(auto, unfolding(crate::specs::Pcapng::padding, crate::specs::Steps::block_size))]
 pub(crate) fn size(n: usize) -> usize
     requires { n ≤ most_bytes }
     ensures { result ≡ block_size n }
@@ -61,56 +65,31 @@ fn packet_head(sec: u32, usec: u32, n: u32, original: u32, size: u32) -> [u8; 28
     ensures { result ≡ packet_head sec usec n original size }
 {
     let micros = sec as u64 * 1000000 + usec as u64;
-    let high = micros / 4294967296;
-    let low = micros % 4294967296;
+    let high = (micros / 4294967296) as u32;
+    let low = (micros % 4294967296) as u32;
+    let [s0, s1, s2, s3] = size.to_le_bytes();
+    let [h0, h1, h2, h3] = high.to_le_bytes();
+    let [l0, l1, l2, l3] = low.to_le_bytes();
+    let [n0, n1, n2, n3] = n.to_le_bytes();
+    let [o0, o1, o2, o3] = original.to_le_bytes();
     [
         6, // an enhanced packet block
-        0,
-        0,
-        0,
-        (size % 256) as u8,
-        (size / 256 % 256) as u8,
-        (size / 256 / 256 % 256) as u8,
-        (size / 256 / 256 / 256 % 256) as u8,
-        0,
-        0,
-        0,
-        0,
-        (high % 256) as u8,
-        (high / 256 % 256) as u8,
-        (high / 256 / 256 % 256) as u8,
-        (high / 256 / 256 / 256 % 256) as u8,
-        (low % 256) as u8,
-        (low / 256 % 256) as u8,
-        (low / 256 / 256 % 256) as u8,
-        (low / 256 / 256 / 256 % 256) as u8,
-        (n % 256) as u8,
-        (n / 256 % 256) as u8,
-        (n / 256 / 256 % 256) as u8,
-        (n / 256 / 256 / 256 % 256) as u8,
-        (original % 256) as u8,
-        (original / 256 % 256) as u8,
-        (original / 256 / 256 % 256) as u8,
-        (original / 256 / 256 / 256 % 256) as u8,
+        0, 0, 0, s0, s1, s2, s3, 0, 0, 0, 0, h0, h1, h2, h3, l0, l1, l2, l3, n0, n1, n2, n3, o0,
+        o1, o2, o3,
     ]
 }
 
 // Three zeros, and a block's size again.
+#[tactic(auto, using(crate::proofs::Laying::tail_bytes))]
 fn packet_tail(size: u32) -> [u8; 7]
     ensures { result ≡ packet_tail size }
 {
-    [
-        0,
-        0,
-        0,
-        (size % 256) as u8,
-        (size / 256 % 256) as u8,
-        (size / 256 / 256 % 256) as u8,
-        (size / 256 / 256 / 256 % 256) as u8,
-    ]
+    let [s0, s1, s2, s3] = size.to_le_bytes();
+    [0, 0, 0, s0, s1, s2, s3]
 }
 
 // The block of a packet at the start of out, and how many bytes it has.
+#[tactic(auto, unfolding(crate::specs::Steps::block_size, crate::specs::Pcapng::padding))]
 fn put(sec: u32, usec: u32, original: u32, packet: &[u8], out: &mut [u8]) -> usize
     requires { (length packet.now ≤ most_bytes) × (block_size (length packet.now) ≤ length out.old) }
     ensures { (result ≡ block_size (length packet.now))
@@ -127,13 +106,18 @@ fn put(sec: u32, usec: u32, original: u32, packet: &[u8], out: &mut [u8]) -> usi
 }
 
 // The block of the record that a step found, and how many bytes it has.
-pub(crate) fn put_step(capture: &[u8], step: Step, out: &mut [u8]) -> usize
-    requires { StepAsks capture.now (step_says step) (length out.old) }
-    ensures { (result ≡ length (step_block capture.now (step_says step)))
-        × (out.new ≡ written (step_block capture.now (step_says step)) out.old) }
+#[tactic(auto, unfolding(pkt::specs::Written::written))]
+pub(crate) fn put_step(
+    capture: &[u8],
+    step: Result<Option<Spot>, ListRefusal>,
+    out: &mut [u8],
+) -> usize
+    requires { StepAsks capture.now (list_says step) (length out.old) }
+    ensures { (result ≡ length (step_block capture.now (list_says step)))
+        × (out.new ≡ written (step_block capture.now (list_says step)) out.old) }
 {
     match step {
-        Step::Record(spot) => {
+        Ok(Some(spot)) => {
             let start = spot.start;
             let end = start + spot.len;
             put(
@@ -144,8 +128,6 @@ pub(crate) fn put_step(capture: &[u8], step: Step, out: &mut [u8]) -> usize
                 out,
             )
         }
-        Step::End => 0,
-        Step::Refused(_) => 0,
-        Step::RefusedAt(_, _) => 0,
+        _ => 0,
     }
 }

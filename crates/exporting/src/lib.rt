@@ -2,90 +2,92 @@
 #![tactic(auto)]
 
 ghost use Rattle.std.specs.Prelude.{◌≡◌, ◌+◌, ◌≤◌};
-ghost use Rattle.pkt.specs.Answers.{most_bytes};
+ghost use Rattle.pkt.specs.Answers.{most_bytes, list_says};
 ghost use Rattle.pkt.specs.Written.{written};
-ghost use Rattle.reading.specs.Reading.{step_says};
 ghost use Rattle.reading.specs.Ends.{records_answer};
 ghost use Rattle.exporting.specs.Pcapng.{packet_blocks, exported};
-ghost use Rattle.exporting.specs.Export.{exported_says, room_for, export_answer, records_given, export_of, Exports};
+ghost use Rattle.exporting.specs.Export.{room_for, export_answer, records_given, export_of, Exports};
 ghost use Rattle.exporting.specs.Steps.{timely, with_record, with_step, ended_by, StepShort, WriteAsks};
 
-use pkt::refusal;
-use reading::Step;
+use pkt::refusal::{ListRefusal, Refusal};
+use reading::Spot;
 
 mod blocks;
 
-// How many bytes were written, or the refusal's number, with the record's where it is for one.
-#[derive(Clone, Copy, Drop)]
-pub enum Exported {
-    Written(usize),
-    Refused(u8),
-    RefusedAt(u8, usize),
-}
-
 // The answer for so many bytes, and more behind them, in an output of room bytes.
-fn fitting(before: usize, more: usize, room: usize) -> Exported
-    ensures { exported_says result ≡ room_for (before + more) room }
+fn fitting(before: usize, more: usize, room: usize) -> Result<usize, ListRefusal>
+    ensures { list_says result ≡ room_for (before + more) room }
 {
     if room < before {
-        return Exported::Refused(refusal::NO_ROOM);
+        return Err(ListRefusal::Whole(Refusal::NoRoom));
     }
     if room - before < more {
-        return Exported::Refused(refusal::NO_ROOM);
+        return Err(ListRefusal::Whole(Refusal::NoRoom));
     }
-    Exported::Written(before + more)
+    Ok(before + more)
 }
 
 // The answer, unless the microseconds of the k-th record are above 999,999.
-fn unless_late(k: usize, usec: u32, answer: Exported) -> Exported
-    ensures { exported_says result ≡ timely k usec (exported_says answer) }
+fn unless_late(
+    k: usize,
+    usec: u32,
+    answer: Result<usize, ListRefusal>,
+) -> Result<usize, ListRefusal>
+    ensures { list_says result ≡ timely k usec (list_says answer) }
 {
     if usec > 999999 {
-        return Exported::RefusedAt(refusal::BAD_TIME, k);
+        return Err(ListRefusal::At(Refusal::BadTime, k));
     }
     answer
 }
 
 // The answer for one record more, the k-th, of n bytes. A time is refused before room is, and the first time before others.
-fn with_record(answer: Exported, k: usize, usec: u32, n: usize, room: usize) -> Exported
+fn with_record(
+    answer: Result<usize, ListRefusal>,
+    k: usize,
+    usec: u32,
+    n: usize,
+    room: usize,
+) -> Result<usize, ListRefusal>
     requires { n ≤ most_bytes }
-    ensures { exported_says result ≡ with_record (exported_says answer) k usec n room }
+    ensures { list_says result ≡ with_record (list_says answer) k usec n room }
 {
     match answer {
-        Exported::RefusedAt(_, _) => answer, // the first late one stays
-        Exported::Refused(_) => unless_late(k, usec, answer),
-        Exported::Written(size) => { unless_late(k, usec, fitting(size, blocks::size(n), room)) }
+        Err(ListRefusal::At(_, _)) => answer, // the first late one stays
+        Err(ListRefusal::Whole(_)) => unless_late(k, usec, answer),
+        Ok(before) => unless_late(k, usec, fitting(before, blocks::size(n), room)),
     }
 }
 
 // The answer with the record that a step found.
-fn with_step(answer: Exported, step: Step, room: usize) -> Exported
-    requires { StepShort (step_says step) }
-    ensures { exported_says result ≡ with_step (exported_says answer) (step_says step) room }
+fn with_step(
+    answer: Result<usize, ListRefusal>,
+    step: Result<Option<Spot>, ListRefusal>,
+    room: usize,
+) -> Result<usize, ListRefusal>
+    requires { StepShort (list_says step) }
+    ensures { list_says result ≡ with_step (list_says answer) (list_says step) room }
 {
     match step {
-        Step::Record(spot) => with_record(answer, spot.number, spot.usec, spot.len, room),
-        Step::End => answer,
-        Step::Refused(_) => answer,
-        Step::RefusedAt(_, _) => answer,
+        Ok(Some(spot)) => with_record(answer, spot.number, spot.usec, spot.len, room),
+        _ => answer,
     }
 }
 
 // The answer where a step found no further record.
-fn ended_by(step: Step, answer: Exported) -> Exported
-    ensures { exported_says result ≡ ended_by (step_says step) (exported_says answer) }
+fn ended_by(
+    step: Result<Option<Spot>, ListRefusal>,
+    answer: Result<usize, ListRefusal>,
+) -> Result<usize, ListRefusal>
+    ensures { list_says result ≡ ended_by (list_says step) (list_says answer) }
 {
-    match step {
-        Step::Refused(number) => Exported::Refused(number),
-        Step::RefusedAt(number, record) => Exported::RefusedAt(number, record),
-        Step::Record(_) => answer,
-        Step::End => answer,
-    }
+    step?;
+    answer
 }
 
 // What export answers for an output of room bytes, with nothing written.
-fn answer(capture: &[u8], room: usize) -> Exported
-    ensures { exported_says result ≡ export_answer capture.now room }
+fn answer(capture: &[u8], room: usize) -> Result<usize, ListRefusal>
+    ensures { list_says result ≡ export_answer capture.now room }
 {
     let mut at = reading::opening(capture);
     let mut count = 0;
@@ -121,16 +123,11 @@ fn write(capture: &[u8], out: &mut [u8])
 }
 
 // Writes a classic capture as pcapng at the start of out: one section, one interface, and a packet for each record. Or refuses, and leaves out as it was.
-pub fn export(capture: &[u8], out: &mut [u8]) -> Exported
+#[tactic(auto, using(crate::proofs::Writing::accepted))]
+pub fn export(capture: &[u8], out: &mut [u8]) -> Result<usize, ListRefusal>
     ensures { Exports capture.now out.old result out.new }
 {
-    let answer = answer(capture, out.len());
-    match answer {
-        Exported::Written(_) => {
-            write(capture, out);
-            answer
-        }
-        Exported::Refused(_) => answer,
-        Exported::RefusedAt(_, _) => answer,
-    }
+    let size = answer(capture, out.len())?;
+    write(capture, out);
+    Ok(size)
 }

@@ -14,14 +14,14 @@ pub(crate) fn put_bytes(bytes: &[u8], at: usize, out: &mut [u8]) {
 // A record at a place of a capture, where there is room for it.
 fn put_record(sec: u32, usec: u32, packet: &[u8], at: usize, capture: &mut [u8]) {
     if at <= capture.len() {
-        pcap::write_record(sec, usec, packet, &mut capture[at..]);
+        let _ = pcap::write_record(sec, usec, packet, &mut capture[at..]);
     }
 }
 
 // A capture of three records, which begin at 24, 43 and 64. As pcapng it has 160 bytes.
 pub(crate) fn three() -> [u8; 84] {
     let mut c = [0u8; 84];
-    pcap::write_header(&mut c);
+    let _ = pcap::write_header(&mut c);
     put_record(1, 2, b"lap", 24, &mut c);
     put_record(1, 500000, b"laps!", 43, &mut c);
     put_record(2, 0, b"rain", 64, &mut c);
@@ -31,7 +31,7 @@ pub(crate) fn three() -> [u8; 84] {
 // A capture of one record with a packet of at most 5 bytes; behind a shorter one stand zeros.
 pub(crate) fn one(packet: &[u8]) -> [u8; 45] {
     let mut c = [0u8; 45];
-    pcap::write_header(&mut c);
+    let _ = pcap::write_header(&mut c);
     put_record(1700000000, 123456, packet, 24, &mut c);
     c
 }

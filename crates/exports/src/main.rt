@@ -6,9 +6,10 @@ mod accepted;
 mod made;
 mod refused;
 mod shown;
-mod words;
 
-fn main() {
-    accepted::each();
-    refused::each();
+use std::io::Error;
+
+fn main(rt: HostRuntime) -> Result<(), Error> {
+    accepted::each(&rt)?;
+    refused::each(&rt)
 }

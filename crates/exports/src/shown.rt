@@ -1,7 +1,7 @@
 // A capture exported, and what came of it.
-use crate::words::{say, say_bytes, say_number};
-use exporting::Exported;
 use ezpkt::part::{back, front};
+use pkt::refusal::ListRefusal;
+use std::io::Error;
 
 // What each byte of the output is before a call.
 const BYTE: u8 = 0xaa;
@@ -10,75 +10,73 @@ const BYTE: u8 = 0xaa;
 const MOST: usize = 65618;
 
 // What the call answers.
-fn say_answer(answer: Exported) {
+fn say_answer(rt: &impl Print, answer: Result<usize, ListRefusal>) -> Result<(), Error> {
     match answer {
-        Exported::Written(n) => {
-            say_number(b": ", n);
-            say(b" bytes");
+        Ok(n) => print!(rt; ": {n} bytes"),
+        Err(ListRefusal::Whole(refusal)) => print!(rt; ": refused {}", refusal.number()),
+        Err(ListRefusal::At(refusal, record)) => {
+            print!(rt; ": refused {} at record {record}", refusal.number())
         }
-        Exported::Refused(number) => say_number(b": refused ", number as usize),
-        Exported::RefusedAt(number, record) => {
-            say_number(b": refused ", number as usize);
-            say_number(b" at record ", record);
-        }
-    }
-}
-
-// How many bytes it says that it wrote.
-fn counted(answer: Exported) -> usize {
-    match answer {
-        Exported::Written(n) => n,
-        _ => 0,
     }
 }
 
 // Whether all these bytes are as before the call.
 fn is_filled(s: &[u8]) -> bool {
-    for i in 0..s.len() {
-        if s[i] != BYTE {
-            return false;
-        }
-    }
-    true
+    s.iter().all(|b| *b == BYTE)
 }
 
 // .. the end of an answer's line.
-fn say_untouched(rest: &[u8]) {
+fn say_untouched(rt: &impl Print, rest: &[u8]) -> Result<(), Error> {
     if is_filled(rest) {
-        say(b", the rest untouched");
+        rt.print(", the rest untouched")
     } else {
-        say(b", the rest NOT untouched");
+        rt.print(", the rest NOT untouched")
     }
+}
+
+// Each of these bytes in two hexadecimal digits, 16 on a line of their own.
+fn say_bytes(rt: &impl Print, s: &[u8]) -> Result<(), Error> {
+    for line in s.chunks(16) {
+        rt.print("\n ")?;
+        for b in line {
+            print!(rt; " {b:02x}")?;
+        }
+    }
+    Ok(())
 }
 
 // What was written; of a long file the first 96 bytes and the last 16.
-fn say_file(file: &[u8]) {
+fn say_file(rt: &impl Print, file: &[u8]) -> Result<(), Error> {
     if file.len() <= 512 {
-        say_bytes(file);
+        say_bytes(rt, file)?;
     } else {
-        say_bytes(front(file, 96));
-        say(b"\n  ..");
-        say_bytes(back(file, file.len() - 16));
+        say_bytes(rt, front(file, 96))?;
+        rt.print("\n  ..")?;
+        say_bytes(rt, back(file, file.len() - 16))?;
     }
-    say(b"\n");
+    rt.println("")
 }
 
 // Exports a capture into lent room, and says what came of it.
-fn show(words: &[u8], capture: &[u8], out: &mut [u8]) {
+fn show(rt: &impl Print, words: &str, capture: &[u8], out: &mut [u8]) -> Result<(), Error> {
     let answer = exporting::export(capture, out);
-    let n = counted(answer);
-    say(words);
-    say_number(b", ", capture.len());
-    say_number(b" bytes into ", out.len());
-    say_answer(answer);
-    say_untouched(back(out, n));
-    say_file(front(out, n));
+    let n = answer.unwrap_or(0); // how many bytes it says that it wrote
+    print!(rt; "{words}, {} bytes into {}", capture.len(), out.len())?;
+    say_answer(rt, answer)?;
+    say_untouched(rt, back(out, n))?;
+    say_file(rt, front(out, n))
 }
 
 // .. with room for so many bytes.
-pub(crate) fn show_into(words: &[u8], capture: &[u8], room: usize) {
+pub(crate) fn show_into(
+    rt: &impl Print,
+    words: &str,
+    capture: &[u8],
+    room: usize,
+) -> Result<(), Error> {
     let mut out = [BYTE; MOST];
     if room <= MOST {
-        show(words, capture, &mut out[0..room]);
+        show(rt, words, capture, &mut out[0..room])?;
     }
+    Ok(())
 }

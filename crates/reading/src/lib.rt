@@ -29,7 +29,8 @@ pub struct Spot {
     pub original: u32,
 }
 
-// The place of the first record, or 0 where the capture does not start with document 01's file header.
+// The place of the first record, or 0 where the capture does not start with document 01's file header. A number, and no Option: at a place before the
+// records each step refuses, so a reader of such a capture is one as any other.
 #[tactic(auto, using(crate::proofs::Starts::starts_as))]
 pub fn opening(s: &[u8]) -> usize
     ensures { result ≡ open_at s.now }

@@ -3,7 +3,7 @@ use mathlib.Core.Path.{sym, ap, subst, ◌∙◌}
 use native.Mathlib.Omega.{arith}
 use Rattle.pkt.specs.Answers.{ListAnswer}
 use Rattle.reading.specs.Reading.{Next}
-use Rattle.exporting.specs.Export.{exported_says}
+use Rattle.pkt.specs.Answers.{list_says}
 use Rattle.exporting.specs.Steps.{with_step, ended_by, StepShort}
 use Rattle.exporting.proofs.Answering.{at_start, in_walk, step_short, at_next, at_end, counts_on, falls}
 use Rattle.exporting.proofs.answer.Goals as goal
@@ -40,8 +40,8 @@ loop-so_far-preserved c =
     let i = c.loop-so_far in
     let more = sym c.more_at.ensures ∙ c.loop-so_far-test.true in
     let b = in_walk l i.at i.count _ a.room more i.invariant in
-    let says = c.with_step-so_far.ensures ∙ ap (λ (s : ListAnswer Next). with_step (exported_says i.so_far) s a.room) c.step_at.ensures in
-    rw (c.past_at-at.ensures, says) (at_next l i.at i.count (exported_says i.so_far) a.room more b)
+    let says = c.with_step-so_far.ensures ∙ ap (λ (s : ListAnswer Next). with_step (list_says i.so_far) s a.room) c.step_at.ensures in
+    rw (c.past_at-at.ensures, says) (at_next l i.at i.count (list_says i.so_far) a.room more b)
 
 pub returns : goal.returns
 returns c =
@@ -49,5 +49,5 @@ returns c =
     let i = c.loop-so_far in
     let none = sym c.more_at.ensures ∙ c.loop-so_far-test.false in
     c.ended_by.ensures
-    ∙ ap (λ (s : ListAnswer Next). ended_by s (exported_says i.so_far)) c.step_at-2.ensures
-    ∙ at_end a.capture.now i.at i.count (exported_says i.so_far) a.room none i.invariant
+    ∙ ap (λ (s : ListAnswer Next). ended_by s (list_says i.so_far)) c.step_at-2.ensures
+    ∙ at_end a.capture.now i.at i.count (list_says i.so_far) a.room none i.invariant

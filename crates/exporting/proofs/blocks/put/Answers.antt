@@ -4,53 +4,12 @@ use mathlib.Core.Path.{◌≡◌, refl, ap, ◌∙◌}
 use Prim.Native.Nat.{ℕ, ◌+◌, ◌-◌}
 use mathlib.Core.List.{List, ◌++◌}
 use lib.ListN.{length, drop, length-append}
-use borrow.Author.Rules.{rules}
 use Rattle.pkt.specs.Written.{written}
 use Rattle.pkt.proofs.Written.{copy_written, written_behind}
 use Rattle.exporting.specs.Pcapng.{padding}
 use Rattle.exporting.specs.Steps.{block_size, packet_head, packet_tail}
 use Rattle.exporting.proofs.Laying.{head_length, tail_lent, block_is}
 use Rattle.exporting.proofs.blocks.put.Goals as goal
-
-pub overflow_cast-size : goal.overflow_cast-size
-unfolding block_size padding
-overflow_cast-size c = search rules
-
-pub overflow_cast-size-2 : goal.overflow_cast-size-2
-unfolding block_size padding
-overflow_cast-size-2 c = search rules
-
-pub copy-requires : goal.copy-requires
-unfolding block_size padding
-copy-requires c = search rules
-
-pub slice_bounds-copy-count : goal.slice_bounds-copy-count
-unfolding block_size padding
-slice_bounds-copy-count c = search rules
-
-pub slice_bounds-copy-start : goal.slice_bounds-copy-start
-unfolding block_size padding
-slice_bounds-copy-start c = search rules
-
-pub copy-requires-2 : goal.copy-requires-2
-unfolding block_size padding
-copy-requires-2 c = search rules
-
-pub overflow_sub-zeros : goal.overflow_sub-zeros
-unfolding block_size padding
-overflow_sub-zeros c = search rules
-
-pub slice_bounds-copy-count-3 : goal.slice_bounds-copy-count-3
-unfolding block_size padding
-slice_bounds-copy-count-3 c = search rules
-
-pub slice_bounds-copy-start-3 : goal.slice_bounds-copy-start-3
-unfolding block_size padding
-slice_bounds-copy-start-3 c = search rules
-
-pub copy-requires-3 : goal.copy-requires-3
-unfolding block_size padding
-copy-requires-3 c = search rules
 
 pub returns : goal.returns
 unfolding block_size padding
