@@ -162,17 +162,28 @@ module _ (l : List ℕ) (found : Result ℕ ListRefusal) (o₀ : List ℕ) (e₀
   stay (refusal.At x i) (gives_all c) q = cc
 
   -- A refusal leaves both as they were.
-  pub mends_refused : (r : ListRefusal) → list_says (Err r) ≡ mend_answer l (length o) (length e) → Mends l o e (Err r) (o₀ ++ o) (e₀ ++ e)
-  mends_refused r says =
+  refused_all : (r : ListRefusal) → list_says (Err r) ≡ mend_answer l (length o) (length e) → Mends l o e (Err r) (o₀ ++ o) (e₀ ++ e)
+  refused_all r says =
       record {
         answer = says;
         after = ap₂ (λ (x : List ℕ) (y : List (List ℕ)). (x, y)) bytes_stay rows_stay ∙ sym (stay r (mend_answer l (length o) (length e)) says);
       }
 
+  -- So a refusal of the pass does,
+  pub pass_refused : (r : ListRefusal) → found ≡ Err r → Mends l o e (Err r) (o₀ ++ o) (e₀ ++ e)
+  pass_refused r is = refused_all r (answered_refused l found o₀ e₀ first r o e is)
+
+  -- and so does one for want of room.
+  pub room_refused : (k : ℕ) (r : ListRefusal) → found ≡ Ok k → list_says (Err r) ≡ room_answer (length l) k (length (o₀ ++ o)) (length (e₀ ++ e))
+      → Mends l o e (Err r) (o₀ ++ o) (e₀ ++ e)
+  room_refused k r is q = refused_all r (answered l found o₀ e₀ first k (Err r) o e is q)
+
   -- Else there is room for both, and the second pass, over a copy, leaves what is owed.
-  pub mends_accepted : (c : Counts) (x o' : List ℕ) (e' : List (List ℕ)) (again : Result ℕ ListRefusal) → list_says (Ok c) ≡ mend_answer l (length o) (length e) → Bytes l
+  pub mends_accepted : (k : ℕ) (c : Counts) (x o' : List ℕ) (e' : List (List ℕ)) (again : Result ℕ ListRefusal) → found ≡ Ok k
+      → list_says (Ok c) ≡ room_answer (length l) k (length (o₀ ++ o)) (length (e₀ ++ e)) → Bytes l
       → x ≡ written (take (length (o₀ ++ o)) l) (o₀ ++ o) → Passes l x (e₀ ++ e) again o' e' → Mends l o e (Ok c) o' e'
-  mends_accepted c x o' e' again says b copied second =
+  mends_accepted k c x o' e' again is q b copied second =
+      let says = answered l found o₀ e₀ first k (Ok c) o e is q in
       let room = (room_given (length l) (length (changes l)) (length o) (length e) c (records_then (records_answer l) _ c (sym says)).1) in
       let copy : x ≡ written l o = copied ∙ copy_written l (o₀ ++ o) (rw bytes_stay room.1) ∙ ap (written l) bytes_stay in
       let bytes : o' ≡ written (mend l) o = second.output ∙ ap (put_sums (sums_of l)) copy ∙ put_copy l o b in

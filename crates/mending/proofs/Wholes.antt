@@ -178,3 +178,15 @@ module _ (l : List ℕ) (h : IpRead) (k : Kind) (q : Known l h k) where
   sum_within =
       let f = framed l h q.frame in
       omega (arith, data_length, (shape_long q.shape).1)
+
+-- Where the header and the data part of such a packet lie.
+pub record Places (l : List ℕ) (h : IpRead) : Type 0 where
+  pub start : 20 ≤ h.start
+  pub few : h.start ≤ 60
+  pub order : h.start ≤ h.end
+  pub within : h.end ≤ length l
+
+pub places : (l : List ℕ) (h : IpRead) (k : Kind) → examine_answer l ≡ gives (whole h k) → Places l h
+places l h k e =
+    let f = framed l h (known l h k e).frame in
+    record { start = omega arith; few = omega arith; order = omega arith; within = omega arith }

@@ -15,7 +15,8 @@ use reading::Spot;
 
 mod sums;
 
-// The field of a change: the IPv4 header's checksum, or the transport's.
+// The field of a change: the IPv4 header's checksum, or the transport's. A number and no enum, since the rows that are lent may hold any numbers
+// before the call, and a refused call leaves them.
 pub const IPV4: usize = 0;
 
 pub const TRANSPORT: usize = 1;
@@ -112,7 +113,7 @@ fn pass(capture: &[u8], out: &mut [u8], rows: &mut [[usize; 4]]) -> Result<usize
     let mut r = reading::open(capture);
     let mut changes: usize = 0;
     while let Some(spot) = reading::here(r)? {
-        changes = put(capture, spot, changes, &mut *out, &mut *rows);
+        changes = put(capture, spot, changes, out, rows);
         r = reading::past(r);
     }
     Ok(changes)

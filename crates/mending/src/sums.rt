@@ -102,7 +102,7 @@ fn icmp_sum(part: &[u8]) -> u16
 }
 
 // The transport's field of a packet with this header and of this kind, where it is summed.
-#[tactic(auto, unfolding(crate::specs::Sums::part_fields))]
+#[tactic(auto, using(crate::proofs::Wholes::places), unfolding(crate::specs::Sums::part_fields))]
 fn part_field(h: IpRead, kind: Kind, packet: &[u8]) -> Option<SumField>
     requires { examine_answer packet.now ≡ gives (whole h kind) }
     ensures { option_to_list result ≡ part_fields kind h packet.now }

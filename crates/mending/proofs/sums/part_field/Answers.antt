@@ -10,36 +10,13 @@ use Rattle.inspect.specs.declared.header.IpRead.{IpRead}
 use Rattle.inspect.specs.declared.check.Kind.{Kind}
 use Rattle.inspect.specs.declared.check.Kind.TheVariants.{Icmp}
 use Rattle.inspect.proofs.Reading.{framed}
+use Rattle.mending.specs.Sums.{part_fields}
 use Rattle.mending.proofs.Wholes.{Known, known, shape_long, data_most, part_asks, sum_within}
 use Rattle.mending.proofs.sums.part_field.Goals as goal
 
 -- what is known once the kind is
 known_as : (l : List ℕ) (h : IpRead) {k j : Kind} → examine_answer l ≡ gives (whole h k) → k ≡ j → Known l h j
 known_as l h {j = j} e s = known l h j (e ∙ ap (λ (i : Kind). gives (whole h i)) s)
-
-pub slice_bounds-part-count : goal.slice_bounds-part-count
-slice_bounds-part-count c =
-    let a = c.args in
-    let f = framed a.packet.now a.h (known a.packet.now a.h a.kind c.requires).frame in
-    omega arith
-
-pub slice_bounds-part-start : goal.slice_bounds-part-start
-slice_bounds-part-start c =
-    let a = c.args in
-    let f = framed a.packet.now a.h (known a.packet.now a.h a.kind c.requires).frame in
-    omega arith
-
-pub slice_bounds-part-end : goal.slice_bounds-part-end
-slice_bounds-part-end c =
-    let a = c.args in
-    let f = framed a.packet.now a.h (known a.packet.now a.h a.kind c.requires).frame in
-    omega arith
-
-pub overflow_add-start : goal.overflow_add-start
-overflow_add-start c =
-    let a = c.args in
-    let f = framed a.packet.now a.h (known a.packet.now a.h a.kind c.requires).frame in
-    omega arith
 
 pub behind_pseudo-requires : goal.behind_pseudo-requires
 behind_pseudo-requires c =
@@ -54,12 +31,6 @@ field-requires c =
     let q = known_as l h c.requires c.in-Tcp.is in
     omega (arith, sum_within l h _ q, (framed l h q.frame).least)
 
-pub overflow_add-start-in-Udp : goal.overflow_add-start-in-Udp
-overflow_add-start-in-Udp c =
-    let a = c.args in
-    let f = framed a.packet.now a.h (known a.packet.now a.h a.kind c.requires).frame in
-    omega arith
-
 pub behind_pseudo-requires-in-Udp : goal.behind_pseudo-requires-in-Udp
 behind_pseudo-requires-in-Udp c =
     let l : List ℕ = c.args.packet.now in
@@ -72,12 +43,6 @@ field-requires-in-Udp c =
     let h : IpRead = c.args.h in
     let q = known_as l h c.requires c.in-Udp.is in
     omega (arith, sum_within l h _ q, (framed l h q.frame).least)
-
-pub overflow_add-start-in-Icmp : goal.overflow_add-start-in-Icmp
-overflow_add-start-in-Icmp c =
-    let a = c.args in
-    let f = framed a.packet.now a.h (known a.packet.now a.h a.kind c.requires).frame in
-    omega arith
 
 pub icmp_sum-requires : goal.icmp_sum-requires
 icmp_sum-requires c =
@@ -92,3 +57,7 @@ field-requires-in-Icmp c =
     let h : IpRead = c.args.h in
     let q = known_as l h c.requires c.in-Icmp.is in
     omega (arith, sum_within l h _ q, (framed l h q.frame).least)
+
+pub returns-in-Bare : goal.returns-in-Bare
+unfolding part_fields
+returns-in-Bare c = rw c.in-Bare.is
