@@ -7,7 +7,7 @@ ghost use Rattle.std.specs.Prelude.{◌≡◌, ◌≤◌, length};
 use crate::state::Now;
 use crate::{fields, place};
 use ezpkt::part::{back, front};
-use pkt::refusal;
+use pkt::refusal::Refusal;
 
 const MARGIN: usize = 64;
 
@@ -21,7 +21,7 @@ pub(crate) const EMPTY: u32 = 2166136261;
 pub(crate) fn lent(n: usize, all: usize) -> usize
     ensures { result ≤ all }
 {
-    fields::least(fields::least(n, 1048576) + MARGIN, all)
+    (n.min(1048576) + MARGIN).min(all)
 }
 
 // Room for the file, and for the largest packet with its margin.
@@ -38,64 +38,54 @@ pub(crate) fn room() -> [u8; 65664]
     [MARK; 65664]
 }
 
-fn exclusive(h: u32, b: u8) -> u32 {
-    h ^ b as u32
-}
-
-fn mixed(h: u32, b: u8) -> u32 {
-    ((exclusive(h, b) as u64) * 16777619 % 4294967296) as u32
-}
-
 // The digest h, carried on over these bytes.
 pub(crate) fn digest(h: u32, bytes: &[u8]) -> u32 {
     let mut sum = h;
-    for i in 0..bytes.len() {
-        sum = mixed(sum, bytes[i]);
+    for b in bytes {
+        sum = (sum ^ u32::from(*b)).wrapping_mul(16777619);
     }
     sum
 }
 
 // Whether every byte is MARK.
 pub(crate) fn untouched(bytes: &[u8]) -> bool {
-    for i in 0..bytes.len() {
-        if bytes[i] != MARK {
-            return false;
-        }
-    }
-    true
+    bytes.iter().all(|b| *b == MARK)
 }
 
 // Whether MARGIN bytes follow the first n, none of them touched.
 fn margin_stays(out: &[u8], n: usize) -> bool {
     let behind = back(out, n);
-    (behind.len() == MARGIN) & untouched(behind)
+    behind.len() == MARGIN && untouched(behind)
 }
 
 // Before the first call of a case.
 pub(crate) fn begun(now: Now) -> Now {
-    let mut next = now;
-    next.count = 0;
-    next.bytes = 0;
-    next.digest = EMPTY;
-    next.kept = true;
-    next.refused = true;
-    next
+    Now {
+        count: 0,
+        bytes: 0,
+        digest: EMPTY,
+        kept: true,
+        refused: true,
+        ..now
+    }
 }
 
 // With what the last call wrote at the front of out.
 pub(crate) fn with(now: Now, out: &[u8]) -> Now {
     let n = now.end;
-    let mut next = now;
-    next.bytes = std::num::wrapping_add_u32(now.bytes, (n % 4294967296) as u32);
-    next.digest = digest(now.digest, front(out, n));
-    next.kept = now.kept & (now.count > 0) & margin_stays(out, n);
-    next.refused = now.refused & (now.number == refusal::NO_CHECKSUM) & untouched(out);
-    next
+    let retired = now.refusal == Some(Refusal::NoChecksum);
+    Now {
+        bytes: now.bytes.wrapping_add((n % 4294967296) as u32),
+        digest: digest(now.digest, front(out, n)),
+        kept: now.kept && now.count > 0 && margin_stays(out, n),
+        refused: now.refused && retired && untouched(out),
+        ..now
+    }
 }
 
 // Whether the file has the n bytes of a call, and not only the digest of all that the case wrote.
 fn is_shown(kind: u8, n: usize) -> bool {
-    (n <= 128) & (place::form(kind) != b'n')
+    n <= 128 && place::form(kind) != b'n'
 }
 
 // How many bytes of the case tell what was written.
@@ -103,7 +93,7 @@ pub(crate) fn span(kind: u8, n: usize) -> usize
     ensures { result ≤ 132 }
 {
     if is_shown(kind, n) {
-        return 4 + fields::least(n, 128);
+        return 4 + n.min(128);
     }
     8
 }
@@ -119,6 +109,5 @@ fn holds(kind: u8, e: &[u8], now: Now, out: &[u8]) -> bool {
 
 // Whether the answer e tells what was written; out is what the last call was lent.
 pub(crate) fn tells(kind: u8, e: &[u8], now: Now, out: &[u8]) -> bool {
-    let right = now.kept & (fields::four(e, 0) == now.bytes);
-    right & holds(kind, back(e, 4), now, out)
+    now.kept && fields::four(e, 0) == now.bytes && holds(kind, back(e, 4), now, out)
 }

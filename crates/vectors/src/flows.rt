@@ -38,20 +38,21 @@ fn each(kind: u8, a: &[u8]) -> usize {
 
 // The call of a kind. What it wrote stays none, where it was refused or the case has what no call has.
 fn sent(now: Now, kind: u8, b: &[u8], bytes: &[u8], frag_off: u16, out: &mut [u8]) -> Now {
-    let flow = now.tcp;
     match kind / 16 {
         1 => pieces::sent(now, kind, b, bytes, out),
         2 => udp::sent(now, kind, b, bytes, frag_off, out),
         3 => icmp::sent(now, kind, bytes, out),
-        _ => tcp::wrote(now, tcp::sent(kind, flow, b, bytes, frag_off, out)),
+        _ => tcp::sent(now, kind, b, bytes, frag_off, out),
     }
 }
 
 fn again(now: Now, kind: u8, b: &[u8], bytes: &[u8], frag_off: u16, out: &mut [u8]) -> Now {
-    payload::fill(answer::MARK, out);
-    let mut next = now;
-    next.count = 0;
-    next.number = 0;
+    out.fill(answer::MARK);
+    let next = Now {
+        count: 0,
+        refusal: None,
+        ..now
+    };
     answer::with(sent(next, kind, b, bytes, frag_off, out), out)
 }
 
@@ -60,7 +61,7 @@ fn first_frag_off(kind: u8, a: &[u8]) -> u16 {
     if place::form(kind) == b'n' {
         return 0;
     }
-    fields::two(a, std::num::wrapping_sub_usize(place::skip(kind), 2))
+    fields::two(a, place::skip(kind).wrapping_sub(2))
 }
 
 // Every call of the case, each with the next number for frag_off.
@@ -71,7 +72,7 @@ fn every(now: Now, kind: u8, b: &[u8], bytes: &[u8], out: &mut [u8]) -> Now {
     let mut next = answer::begun(now);
     for _ in 0..n {
         next = again(next, kind, b, bytes, frag_off, out);
-        frag_off = std::num::wrapping_add_u16(frag_off, 1);
+        frag_off = frag_off.wrapping_add(1);
     }
     next
 }
@@ -91,9 +92,9 @@ fn are_ends(e: &[u8], now: Now) -> bool {
     let first = fields::size(e, 0);
     let second = first + fields::size(e, 4);
     let third = second + fields::size(e, 8);
-    let two = (now.count < 2) | (now.second == second);
-    let three = (now.count < 3) | (now.end == third);
-    (now.first == first) & two & three
+    let two = now.count < 2 || now.second == second;
+    let three = now.count < 3 || now.end == third;
+    now.first == first && two && three
 }
 
 // Whether as many packets were written as the answer e tells, each of its length; where the call is made
@@ -101,7 +102,7 @@ fn are_ends(e: &[u8], now: Now) -> bool {
 fn are_counts(kind: u8, e: &[u8], now: Now) -> bool {
     match place::form(kind) {
         b'1' => now.count == 1,
-        b'3' => (now.count == fields::byte(e, 0)) & are_ends(back(e, 1), now),
+        b'3' => now.count == fields::byte(e, 0) && are_ends(back(e, 1), now),
         _ => now.count > 0,
     }
 }
@@ -111,8 +112,8 @@ fn has_state(kind: u8, a: &[u8], at: usize, before: Now, now: Now) -> bool {
     let e = back(a, at);
     match kind / 16 {
         1 | 2 => a.len() == at,
-        3 => before.icmp_open & icmp::has_state(e, before.icmp, now.icmp),
-        _ => before.tcp_open & tcp::has_state(e, before.tcp, now.tcp),
+        3 => icmp::has_states(e, before.icmp, now.icmp),
+        _ => tcp::has_states(e, before.tcp, now.tcp),
     }
 }
 

@@ -2,16 +2,13 @@
 use crate::{fields, payload};
 use ezpkt::part::back;
 use pkt::ipv4;
-use pkt::ipv4::{Sum, icmp_echo_hdr, icmp_hdr, ip_hdr, tcp_hdr, udp_hdr};
+use pkt::ipv4::{icmp_echo_hdr, icmp_hdr, ip_hdr, tcp_hdr, udp_hdr};
 
 fn csum(b: &[u8]) -> bool {
     let a = payload::behind(0x01, b);
     let mut data = io::large_buffer();
     let n = payload::make(0x01, b, &mut data);
-    match ipv4::ip_csum(&data[0..n]) {
-        Sum::Is(sum) => (a.len() == 2) & (sum == fields::two(a, 0)),
-        Sum::Refused(_) => false,
-    }
+    a.len() == 2 && ipv4::ip_csum(&data[0..n]) == Ok(fields::two(a, 0))
 }
 
 fn ip(b: &[u8]) -> bool {

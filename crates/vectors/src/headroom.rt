@@ -6,55 +6,46 @@
 use crate::state::Now;
 use crate::{answer, fields, payload, place, state};
 use ezpkt::part::{back, front};
-use packet::{Made, Number, Packet, Part, PktSlice, Pushed};
+use packet::{Grown, Packet, PktSlice};
 use pkt::copying::copy;
-
-fn is_number(number: Number, n: usize) -> bool {
-    match number {
-        Number::Is(m) => m == n,
-        Number::Refused(_) => false,
-    }
-}
+use pkt::refusal::Refusal;
 
 // Whether the packet has this headroom, and this end.
 fn has_places(p: Packet, headroom: usize, end: usize, buf: &[u8]) -> bool {
-    if headroom > end {
-        return false;
-    }
-    is_number(p.headroom(buf), headroom) & is_number(p.len(buf), end - headroom)
+    headroom <= end && p.headroom(buf) == Ok(headroom) && p.len(buf) == Ok(end - headroom)
 }
 
 // Whether the digest is that of what stands before the end, and what stands behind it is untouched.
 fn has_bytes(digest: u32, end: usize, buf: &[u8]) -> bool {
     let got = answer::digest(answer::EMPTY, front(buf, end));
-    (got == digest) & answer::untouched(back(buf, end))
+    got == digest && answer::untouched(back(buf, end))
 }
 
 // Whether e is the record of the packet: headroom, end and digest.
 fn has_record(e: &[u8], p: Packet, buf: &[u8]) -> bool {
     let end = fields::size(e, 4);
     let places = has_places(p, fields::size(e, 0), end, buf);
-    (e.len() == 12) & places & has_bytes(fields::four(e, 8), end, buf)
+    e.len() == 12 && places && has_bytes(fields::four(e, 8), end, buf)
 }
 
 // What was answered is the same, and e is the record of the packet.
 fn recorded(now: Now, e: &[u8], buf: &[u8]) -> Now {
-    let p = now.packet;
-    state::told(now, now.same & has_record(e, p, buf))
+    state::told(now, now.same && has_record(e, now.packet, buf))
 }
 
 // The packet afterwards, and whether what was answered is the same.
 fn stepped(now: Now, p: Packet, same: bool) -> Now {
-    let mut next = now;
-    next.packet = p;
-    next.same = now.same & same;
-    next
+    Now {
+        packet: p,
+        same: now.same && same,
+        ..now
+    }
 }
 
-fn made(now: Now, got: Made) -> Now {
+fn made(now: Now, got: Result<Packet, Refusal>) -> Now {
     match got {
-        Made::Is(p) => stepped(now, p, true),
-        Made::Refused(_) => state::told(now, false),
+        Ok(p) => stepped(now, p, true),
+        Err(_) => state::told(now, false),
     }
 }
 
@@ -69,35 +60,34 @@ fn part(e: &[u8]) -> PktSlice {
 // Whether the part of n bytes is the one that e tells: its offset, and its length unless e is only an offset
 // and the record, 16 bytes.
 fn is_part(s: PktSlice, n: usize, e: &[u8]) -> bool {
-    let len = (e.len() == 16) | (fields::size(e, 4) == n);
-    (s.off == fields::size(e, 0)) & (s.len == n) & len
+    let len = e.len() == 16 || fields::size(e, 4) == n;
+    s.off == fields::size(e, 0) && s.len == n && len
 }
 
 // The packet with n more bytes.
-fn longer(now: Now, got: Pushed, n: usize, e: &[u8]) -> Now {
+fn longer(now: Now, got: Result<Grown, Refusal>, n: usize, e: &[u8]) -> Now {
     match got {
-        Pushed::Is(p, s) => stepped(now, p, is_part(s, n, e)),
-        Pushed::Refused(_) => state::told(now, false),
+        Ok(grown) => stepped(now, grown.whole, is_part(grown.added, n, e)),
+        Err(_) => state::told(now, false),
     }
 }
 
 // Kind 6c: eight bytes, of which the first four are 0.
 fn is_time(p: Packet, b: &[u8], buf: &[u8]) -> bool {
-    let none = fields::four(b, 0) == 0;
-    none & is_number(p.bit_time(buf), fields::size(b, 4))
+    fields::four(b, 0) == 0 && p.bit_time(buf) == Ok(fields::size(b, 4))
 }
 
 // Kind 6f.
 fn is_whole(p: Packet, b: &[u8], buf: &[u8]) -> bool {
     match p.as_slice(buf) {
-        Part::Is(s) => is_part(s, fields::size(b, 4), b),
-        Part::Refused(_) => false,
+        Ok(s) => is_part(s, fields::size(b, 4), b),
+        Err(_) => false,
     }
 }
 
 // Kind 60.
 fn opened(now: Now, b: &[u8], buf: &mut [u8]) -> Now {
-    payload::fill(answer::MARK, buf);
+    buf.fill(answer::MARK);
     made(now, Packet::new(fields::size(b, 0), buf))
 }
 
@@ -112,7 +102,7 @@ fn unwritten(now: Now, kind: u8, b: &[u8], buf: &[u8]) -> Now {
 }
 
 // Kinds 61, 64 and 65: so many bytes that are not given.
-fn sized(kind: u8, p: Packet, n: usize, buf: &mut [u8]) -> Pushed {
+fn sized(kind: u8, p: Packet, n: usize, buf: &mut [u8]) -> Result<Grown, Refusal> {
     match kind {
         0x61 => p.push_hdr(n, buf),
         0x64 => p.push_slice(n, buf),
@@ -127,7 +117,7 @@ fn with_size(now: Now, kind: u8, b: &[u8], buf: &mut [u8]) -> Now {
 }
 
 // Kinds 62, 63 and 66: bytes that are given.
-fn given(kind: u8, p: Packet, bytes: &[u8], buf: &mut [u8]) -> Pushed {
+fn given(kind: u8, p: Packet, bytes: &[u8], buf: &mut [u8]) -> Result<Grown, Refusal> {
     match kind {
         0x62 => p.push(bytes, buf),
         0x63 => p.push_bytes(bytes, buf),
@@ -137,19 +127,17 @@ fn given(kind: u8, p: Packet, bytes: &[u8], buf: &mut [u8]) -> Pushed {
 
 // The caller writes a part of its buffer.
 fn put(bytes: &[u8], off: usize, buf: &mut [u8]) {
-    if off <= buf.len() {
-        if bytes.len() <= buf.len() - off {
-            copy(bytes, &mut buf[off..]);
-        }
+    if off <= buf.len() && bytes.len() <= buf.len() - off {
+        copy(bytes, &mut buf[off..]);
     }
 }
 
 // Kind 6e. The part is within the packet.
 fn written(now: Now, b: &[u8], bytes: &[u8], buf: &mut [u8]) -> Now {
     let off = fields::size(b, 0);
-    let end = off + fields::least(bytes.len(), 65536);
+    let end = off + bytes.len().min(65536);
     put(bytes, off, buf);
-    state::told(now, (now.packet.headroom <= off) & (end <= now.packet.end))
+    state::told(now, now.packet.headroom <= off && end <= now.packet.end)
 }
 
 // The bytes that are given are added, or written into the packet.
@@ -183,7 +171,7 @@ fn without_copy(now: Now, kind: u8, b: &[u8], buf: &mut [u8]) -> Now {
 }
 
 // Kinds 68, 69, 6a, 6b and 6d: bytes that are copied out. The part counts where the kind has one.
-fn copied(kind: u8, p: Packet, b: &[u8], buf: &[u8], out: &mut [u8]) -> Number {
+fn copied(kind: u8, p: Packet, b: &[u8], buf: &[u8], out: &mut [u8]) -> Result<usize, Refusal> {
     match kind {
         0x68 => p.to_vec(buf, out),
         0x6b => p.hex_dump(buf, out),
@@ -193,19 +181,26 @@ fn copied(kind: u8, p: Packet, b: &[u8], buf: &[u8], out: &mut [u8]) -> Number {
 
 // Whether the length of a dump, where there is one, is as it was told beforehand.
 fn is_foretold(kind: u8, p: Packet, n: usize, buf: &[u8]) -> bool {
-    (kind != 0x6b) | is_number(p.hex_dump_len(buf), n)
+    kind != 0x6b || p.hex_dump_len(buf) == Ok(n)
 }
 
 // Whether what was copied is what the answer e tells.
-fn compared(now: Now, kind: u8, got: Number, e: &[u8], buf: &[u8], out: &[u8]) -> Now {
+fn compared(
+    now: Now,
+    kind: u8,
+    got: Result<usize, Refusal>,
+    e: &[u8],
+    buf: &[u8],
+    out: &[u8],
+) -> Now {
     let p = now.packet;
     match got {
-        Number::Is(n) => {
+        Ok(n) => {
             let next = answer::with(state::wrote(answer::begun(now), n), out);
             let same = answer::tells(kind, e, next, out) & is_foretold(kind, p, n, buf);
             recorded(state::told(next, same), back(e, answer::span(kind, n)), buf)
         }
-        Number::Refused(_) => state::told(now, false),
+        Err(_) => state::told(now, false),
     }
 }
 
@@ -234,13 +229,15 @@ fn within(now: Now, kind: u8, b: &[u8], buf: &mut [u8]) -> Now {
 // The largest end of the packet: that of a new one is in the case, and not above 1,048,576. The one before
 // has reached its own.
 fn room_of(now: Now, kind: u8, b: &[u8]) -> Now {
-    let mut next = now;
-    next.same = true;
-    if kind == 0x60 {
-        next.room = fields::size(b, 4);
-        next.same = (now.packet.end == now.room) & (next.room <= 1048576);
+    if kind != 0x60 {
+        return state::told(now, true);
     }
-    next
+    let room = fields::size(b, 4);
+    Now {
+        room,
+        same: now.packet.end == now.room && room <= 1048576,
+        ..now
+    }
 }
 
 // The case on the packet that is there.

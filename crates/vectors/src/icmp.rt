@@ -4,13 +4,22 @@ use crate::{fields, state};
 use ezpkt::Marks;
 use ezpkt::icmp4::{EchoSent, IcmpFlow};
 use ezpkt::part::back;
+use pkt::refusal::Refusal;
 
 // Whether e is the two numbers of the flow, which has the ends that it had.
-pub(crate) fn has_state(e: &[u8], before: IcmpFlow, flow: IcmpFlow) -> bool {
+fn has_state(e: &[u8], before: IcmpFlow, flow: IcmpFlow) -> bool {
     let ping = fields::two(e, 0) == flow.ping_seq;
     let pong = fields::two(e, 2) == flow.pong_seq;
-    let ends = (before.cl == flow.cl) & (before.sv == flow.sv);
-    (e.len() == 4) & ping & pong & ends
+    let ends = before.cl == flow.cl && before.sv == flow.sv;
+    e.len() == 4 && ping && pong && ends
+}
+
+// .. of a flow that is open.
+pub(crate) fn has_states(e: &[u8], before: Option<IcmpFlow>, now: Option<IcmpFlow>) -> bool {
+    match (before, now) {
+        (Some(before), Some(flow)) => has_state(e, before, flow),
+        _ => false,
+    }
 }
 
 // Kind 30.
@@ -25,29 +34,33 @@ pub(crate) fn opened(now: Now, a: &[u8]) -> Now {
         pong_seq: 0,
         marks: Marks::default(),
     };
-    let mut next = now;
-    next.icmp = flow;
-    next.icmp_open = true;
-    next.same = has_state(back(a, 8), asked, flow);
-    next
+    Now {
+        icmp: Some(flow),
+        same: has_state(back(a, 8), asked, flow),
+        ..now
+    }
 }
 
-fn echoed(kind: u8, flow: IcmpFlow, bytes: &[u8], out: &mut [u8]) -> EchoSent {
+fn echoed(kind: u8, flow: IcmpFlow, bytes: &[u8], out: &mut [u8]) -> Result<EchoSent, Refusal> {
     if kind % 2 == 1 {
         return flow.echo(bytes, out);
     }
     flow.echo_reply(bytes, out)
 }
 
-// The echo or the reply of the case.
+// The echo or the reply of the case; as it was, where it was refused.
 pub(crate) fn sent(now: Now, kind: u8, bytes: &[u8], out: &mut [u8]) -> Now {
-    let mut next = now;
-    let flow = now.icmp;
+    let Some(flow) = now.icmp else {
+        return now;
+    };
     match echoed(kind, flow, bytes, out) {
-        EchoSent::Packet(after, n) => {
-            next.icmp = after;
-            state::wrote(next, n)
-        }
-        EchoSent::Refused(_) => next,
+        Ok(sent) => state::wrote(
+            Now {
+                icmp: Some(sent.flow),
+                ..now
+            },
+            sent.size,
+        ),
+        Err(_) => now,
     }
 }

@@ -12,7 +12,7 @@ fn is_right(b: &[u8]) -> bool {
     if n == 0 {
         return form == 0;
     }
-    (form < 0x200) & (n <= 65535) | (form == 0x200) & (n <= 64)
+    form < 0x200 && n <= 65535 || form == 0x200 && n <= 64
 }
 
 // How many bytes of the body describe it: all, where the description is wrong.
@@ -47,19 +47,8 @@ fn patterned(s: u8, i: usize) -> u8 {
 }
 
 fn put_pattern(s: u8, out: &mut [u8]) {
-    let mut i = 0;
-    while i < out.len() {
-        out[i] = patterned(s, i);
-        i += 1;
-    }
-}
-
-// Every byte of out becomes v.
-pub(crate) fn fill(v: u8, out: &mut [u8]) {
-    let mut i = 0;
-    while i < out.len() {
-        out[i] = v;
-        i += 1;
+    for (i, b) in out.iter_mut().enumerate() {
+        *b = patterned(s, i);
     }
 }
 
@@ -69,7 +58,7 @@ fn put(b: &[u8], out: &mut [u8]) {
     if form == 0 {
         put_pattern(s, out);
     } else if form == 1 {
-        fill(s, out);
+        out.fill(s);
     } else {
         copy(front(back(b, 6), out.len()), out);
     }
@@ -84,7 +73,7 @@ pub(crate) fn make(kind: u8, b: &[u8], data: &mut [u8]) -> usize
         return 0;
     }
     let p = described(kind, b);
-    let n = fields::least(fields::size(p, 2), data.len());
+    let n = fields::size(p, 2).min(data.len());
     put(p, &mut data[0..n]);
     n
 }

@@ -1,9 +1,9 @@
 // Kinds 10 to 12: pieces of an IPv4 payload.
 use crate::state::Now;
 use crate::{fields, payload, state};
-use ezpkt::build::Built;
 use ezpkt::ip4;
 use ezpkt::ip4::Template;
+use pkt::refusal::Refusal;
 
 fn template(b: &[u8]) -> Template {
     let flags = fields::byte(b, 3);
@@ -20,7 +20,7 @@ fn template(b: &[u8]) -> Template {
 }
 
 // The call of a kind; a holds the numbers that go with it.
-fn built(kind: u8, t: Template, bytes: &[u8], a: &[u8], out: &mut [u8]) -> Built {
+fn built(kind: u8, t: Template, bytes: &[u8], a: &[u8], out: &mut [u8]) -> Result<usize, Refusal> {
     let off = fields::two(a, 0);
     match kind {
         0x10 => ip4::fragment(t, bytes, off, fields::two(a, 2), out),
