@@ -5,14 +5,14 @@ use ezpkt::part::front;
 use std::io::Error;
 
 // A capture of one packet.
-fn padded(rt: &impl Print, words: &str, packet: &[u8]) -> Result<(), Error> {
+fn padded(rt: &(impl Print + AllocGlobal), words: &str, packet: &[u8]) -> Result<(), Error> {
     let c = one(packet);
     let n = packet.len().wrapping_add(40);
     show_into(rt, words, front(&c, n), 96)
 }
 
 // Every number of zeros behind it.
-fn paddings(rt: &impl Print) -> Result<(), Error> {
+fn paddings(rt: &(impl Print + AllocGlobal)) -> Result<(), Error> {
     padded(rt, "a packet of no bytes", b"")?;
     padded(rt, "a packet of 1 byte", b"l")?;
     padded(rt, "a packet of 2 bytes", b"la")?;
@@ -22,14 +22,19 @@ fn paddings(rt: &impl Print) -> Result<(), Error> {
 }
 
 // .. of 5 bytes, with other bytes at a place of its record's header.
-fn changed(rt: &impl Print, words: &str, at: usize, bytes: &[u8]) -> Result<(), Error> {
+fn changed(
+    rt: &(impl Print + AllocGlobal),
+    words: &str,
+    at: usize,
+    bytes: &[u8],
+) -> Result<(), Error> {
     let mut c = one(b"laps!");
     put_bytes(bytes, at, &mut c);
     show_into(rt, words, &c, 96)
 }
 
 // Times whose count of microseconds has 0 for its high word, the first 1, and the most.
-fn times(rt: &impl Print) -> Result<(), Error> {
+fn times(rt: &(impl Print + AllocGlobal)) -> Result<(), Error> {
     changed(rt, "0 s and 0 us", 24, b"\x00\x00\x00\x00\x00\x00\x00\x00")?;
     changed(
         rt,
@@ -52,7 +57,7 @@ fn times(rt: &impl Print) -> Result<(), Error> {
 }
 
 // Original lengths that are not the captured one.
-fn originals(rt: &impl Print) -> Result<(), Error> {
+fn originals(rt: &(impl Print + AllocGlobal)) -> Result<(), Error> {
     changed(rt, "an original length of 1,500", 36, b"\xdc\x05\x00\x00")?;
     changed(rt, "an original length of 4", 36, b"\x04\x00\x00\x00")?;
     changed(
@@ -64,8 +69,8 @@ fn originals(rt: &impl Print) -> Result<(), Error> {
 }
 
 // The longest packet: zeros, and a last byte that is not.
-fn longest(rt: &impl Print) -> Result<(), Error> {
-    let mut c = [0u8; 65575];
+fn longest(rt: &(impl Print + AllocGlobal)) -> Result<(), Error> {
+    let mut c = vec![in rt.alloc(); 0u8; 65575]?;
     let _ = pcap::write_header(&mut c);
     put_bytes(b"\xff\xff\x00\x00\xff\xff\x00\x00", 32, &mut c);
     put_bytes(b"!", 65574, &mut c);
@@ -73,7 +78,7 @@ fn longest(rt: &impl Print) -> Result<(), Error> {
 }
 
 // All of them.
-pub(crate) fn each(rt: &impl Print) -> Result<(), Error> {
+pub(crate) fn each(rt: &(impl Print + AllocGlobal)) -> Result<(), Error> {
     let three = three();
     show_into(rt, "no records", front(&three, 24), 64)?;
     paddings(rt)?;

@@ -10,14 +10,14 @@ const MILLION: [u8; 4] = *b"\x40\x42\x0f\x00";
 const MOST: [u8; 4] = *b"\xff\xff\xff\xff";
 
 // The first n bytes of the three records.
-fn cut(rt: &impl Print, words: &str, n: usize, room: usize) -> Result<(), Error> {
+fn cut(rt: &(impl Print + AllocGlobal), words: &str, n: usize, room: usize) -> Result<(), Error> {
     let c = three();
     show_into(rt, words, front(&c, n), room)
 }
 
 // .. all of them, with other bytes at a place.
 fn changed(
-    rt: &impl Print,
+    rt: &(impl Print + AllocGlobal),
     words: &str,
     at: usize,
     bytes: &[u8],
@@ -30,7 +30,7 @@ fn changed(
 
 // .. or at two.
 fn changed_twice(
-    rt: &impl Print,
+    rt: &(impl Print + AllocGlobal),
     words: &str,
     at: usize,
     bytes: &[u8],
@@ -44,7 +44,7 @@ fn changed_twice(
 }
 
 // 23.
-fn headers(rt: &impl Print) -> Result<(), Error> {
+fn headers(rt: &(impl Print + AllocGlobal)) -> Result<(), Error> {
     cut(rt, "no bytes", 0, 192)?;
     cut(rt, "a header cut short", 23, 192)?;
     changed(
@@ -58,7 +58,7 @@ fn headers(rt: &impl Print) -> Result<(), Error> {
 }
 
 // 25, where a record is cut short,
-fn records(rt: &impl Print) -> Result<(), Error> {
+fn records(rt: &(impl Print + AllocGlobal)) -> Result<(), Error> {
     cut(rt, "the first record's header cut short", 39, 192)?;
     cut(rt, "the second record's header cut short", 58, 192)?;
     cut(rt, "the last record's header cut short", 65, 192)?;
@@ -68,22 +68,22 @@ fn records(rt: &impl Print) -> Result<(), Error> {
 }
 
 // and where it has all of its bytes, and one too many.
-fn too_long(rt: &impl Print) -> Result<(), Error> {
-    let mut c = [0u8; 65576];
+fn too_long(rt: &(impl Print + AllocGlobal)) -> Result<(), Error> {
+    let mut c = vec![in rt.alloc(); 0u8; 65576]?;
     let _ = pcap::write_header(&mut c);
     put_bytes(b"\x00\x00\x01\x00\x00\x00\x01\x00", 32, &mut c);
     show_into(rt, "a packet of 65,536 bytes", &c, 65618)
 }
 
 // 17.
-fn times(rt: &impl Print) -> Result<(), Error> {
+fn times(rt: &(impl Print + AllocGlobal)) -> Result<(), Error> {
     changed(rt, "1,000,000 us in the first", 28, &MILLION, 192)?;
     changed(rt, "4,294,967,295 us in the last", 68, &MOST, 192)?;
     changed_twice(rt, "both in the last two", 47, &MILLION, 68, &MOST)
 }
 
 // Two refusals at once.
-fn orders(rt: &impl Print) -> Result<(), Error> {
+fn orders(rt: &(impl Print + AllocGlobal)) -> Result<(), Error> {
     changed_twice(rt, "23 before 17", 20, b"\x01", 28, &MOST)?;
     changed_twice(
         rt,
@@ -100,7 +100,7 @@ fn orders(rt: &impl Print) -> Result<(), Error> {
 }
 
 // 3.
-fn rooms(rt: &impl Print) -> Result<(), Error> {
+fn rooms(rt: &(impl Print + AllocGlobal)) -> Result<(), Error> {
     cut(rt, "one byte too few", 84, 159)?;
     cut(rt, "exactly enough", 84, 160)?;
     cut(rt, "no room", 84, 0)?;
@@ -110,7 +110,7 @@ fn rooms(rt: &impl Print) -> Result<(), Error> {
 }
 
 // All of them.
-pub(crate) fn each(rt: &impl Print) -> Result<(), Error> {
+pub(crate) fn each(rt: &(impl Print + AllocGlobal)) -> Result<(), Error> {
     headers(rt)?;
     records(rt)?;
     too_long(rt)?;

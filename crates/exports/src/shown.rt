@@ -6,9 +6,6 @@ use std::io::Error;
 // What each byte of the output is before a call.
 const BYTE: u8 = 0xaa;
 
-// The bytes of the largest output: two more than a packet of 65,535 bytes needs.
-const MOST: usize = 65618;
-
 // What the call answers.
 fn say_answer(rt: &impl Print, answer: Result<usize, ListRefusal>) -> Result<(), Error> {
     match answer {
@@ -69,14 +66,11 @@ fn show(rt: &impl Print, words: &str, capture: &[u8], out: &mut [u8]) -> Result<
 
 // .. with room for so many bytes.
 pub(crate) fn show_into(
-    rt: &impl Print,
+    rt: &(impl Print + AllocGlobal),
     words: &str,
     capture: &[u8],
     room: usize,
 ) -> Result<(), Error> {
-    let mut out = [BYTE; MOST];
-    if room <= MOST {
-        show(rt, words, capture, &mut out[0..room])?;
-    }
-    Ok(())
+    let mut out = vec![in rt.alloc(); BYTE; room]?;
+    show(rt, words, capture, &mut out)
 }

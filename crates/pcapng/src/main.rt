@@ -4,14 +4,14 @@
 ghost use Rattle.std.specs.Prelude.{◌≤◌, length, IfOk};
 
 use pkt::refusal::{ListRefusal, Refusal};
+use std::alloc::AllocError;
 use std::env::FillError;
+use std::fmt::Display;
 use std::io::{Error, Read};
 use std::rt::Env;
 
 // The bytes of the longest capture that is taken.
 const MOST: usize = 2097152;
-
-const ROOM: usize = MOST + 1;
 
 // The most bytes that one becomes: 48 before the packets, and a block for each record. A record of n bytes takes 16 + n of the capture behind its
 // header of 24, and its block 32 + n and up to three zeros: 36 bytes for 17 where n is 1, and for every other n fewer to a byte. So there is always
@@ -19,7 +19,7 @@ const ROOM: usize = MOST + 1;
 const MOST_WRITTEN: usize = 48 + 36 * (MOST - 24) / 17;
 
 // Says on standard error what failed, and why.
-fn say_failed(rt: &impl Eprint, what: &str, e: Error) {
+fn say_failed(rt: &impl Eprint, what: &str, e: impl Display + Drop) {
     let _ = eprintln!(rt; "pcapng: {what}: {e}");
 }
 
@@ -76,30 +76,23 @@ fn export_in(rt: &(impl Print + Eprint), capture: &[u8], out: &mut [u8]) {
     }
 }
 
-// The array as a slice.
-fn export_within(rt: &(impl Print + Eprint), capture: &[u8], out: &mut [u8; MOST_WRITTEN]) {
-    export_in(rt, capture, out);
+fn export(rt: &(impl Print + Eprint + AllocGlobal), capture: &[u8]) -> Result<(), AllocError> {
+    let mut out = vec![in rt.alloc(); 0u8; MOST_WRITTEN]?;
+    export_in(rt, capture, &mut out);
+    Ok(())
 }
 
-fn run(rt: &(impl Print + Eprint), capture: &[u8]) {
-    let mut out = [0u8; MOST_WRITTEN];
-    export_within(rt, capture, &mut out);
-}
-
-// Reads a capture; a byte more than the longest has shows that there is more.
-fn read_into(rt: &(impl Print + Eprint + Input), input: &mut [u8]) {
-    match fill(&mut rt.reader(), &mut *input) {
+// Reads a capture, and exports it; a byte more than the longest has shows that there is more.
+fn run(rt: &(impl Print + Eprint + Input + AllocGlobal)) -> Result<(), AllocError> {
+    let mut input = vec![in rt.alloc(); 0u8; MOST + 1]?;
+    match fill(&mut rt.reader(), &mut input) {
         Err(e) => say_failed(rt, "standard input", e),
         Ok(n) if MOST < n => {
             let _ = rt.eprintln("pcapng: more than 2,097,152 bytes of input");
         }
-        Ok(n) => run(rt, &input[0..n]),
+        Ok(n) => export(rt, &input[0..n])?,
     }
-}
-
-// The array as a slice.
-fn read_within(rt: &(impl Print + Eprint + Input), input: &mut [u8; ROOM]) {
-    read_into(rt, input);
+    Ok(())
 }
 
 // Whether there are words behind the program's name.
@@ -112,6 +105,7 @@ fn main(rt: HostRuntime) {
         let _ = rt.eprintln("pcapng wants no words, as in: pcapng < old.pcap > new.pcapng");
         return;
     }
-    let mut input = [0u8; ROOM];
-    read_within(&rt, &mut input);
+    if let Err(e) = run(&rt) {
+        say_failed(&rt, "memory", e);
+    }
 }
