@@ -1,16 +1,10 @@
 // Echoes and replies of an ICMP flow.
 use crate::shown;
+use crate::shown::Flows;
 use ezpkt::Marks;
 use ezpkt::icmp4::{EchoSent, IcmpFlow};
 use ezpkt::part::front;
 use std::io;
-
-// The same calls on two flows.
-#[derive(Clone, Copy, Drop)]
-struct Flows {
-    marked: IcmpFlow,
-    plain: IcmpFlow,
-}
 
 // The flow after an echo or a reply and how many bytes that has, or 0.
 fn sent(reply: bool, flow: IcmpFlow, out: &mut [u8]) -> EchoSent {
@@ -22,7 +16,12 @@ fn sent(reply: bool, flow: IcmpFlow, out: &mut [u8]) -> EchoSent {
     sent.unwrap_or(EchoSent { flow, size: 0 })
 }
 
-fn both(rt: &impl Print, what: &str, reply: bool, flows: Flows) -> io::Result<Flows> {
+fn both(
+    rt: &impl Print,
+    what: &str,
+    reply: bool,
+    flows: Flows<IcmpFlow>,
+) -> io::Result<Flows<IcmpFlow>> {
     let mut a = [0u8; 32];
     let mut b = [0u8; 32];
     let x = sent(reply, flows.marked, &mut a);

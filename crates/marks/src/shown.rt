@@ -1,6 +1,13 @@
 // What is shown of a packet that was built twice.
 use std::io;
 
+// A flow with marks and one without, on which the same calls are made.
+#[derive(Clone, Copy, Drop)]
+pub(crate) struct Flows<F> {
+    pub marked: F,
+    pub plain: F,
+}
+
 // Where the type of service, the time to live, and the checksum of the header that has them stand.
 const MARKED: [usize; 4] = [1, 8, 10, 11];
 

@@ -1,5 +1,6 @@
 // Every call of a TCP flow, one after the other on the same flow; those that build no packet with an acknowledgment behind them.
 use crate::shown;
+use crate::shown::Flows;
 use ezpkt::part::{back, front};
 use ezpkt::{Marks, SocketAddrV4};
 use pkt::refusal::Refusal;
@@ -13,13 +14,6 @@ struct Run {
     first: usize,
     second: usize,
     third: usize,
-}
-
-// The same calls on two flows.
-#[derive(Clone, Copy, Drop)]
-struct Flows {
-    marked: TcpFlow,
-    plain: TcpFlow,
 }
 
 // A call: the opening, those on the numbers of both sides, and those that each side has.
@@ -149,7 +143,7 @@ fn show_packets(rt: &impl Print, a: &[u8], x: Run, b: &[u8], y: Run) -> io::Resu
     Ok(())
 }
 
-fn both(rt: &impl Print, call: Call, flows: Flows) -> io::Result<Flows> {
+fn both(rt: &impl Print, call: Call, flows: Flows<TcpFlow>) -> io::Result<Flows<TcpFlow>> {
     let mut a = [0u8; 120];
     let mut b = [0u8; 120];
     let x = ran(flows.marked, made(call, flows.marked, &mut a));

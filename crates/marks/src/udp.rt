@@ -1,5 +1,6 @@
 // Datagrams of a UDP flow.
 use crate::shown;
+use crate::shown::Flows;
 use ezpkt::part::front;
 use ezpkt::udp4::{Choices, UdpFlow};
 use ezpkt::{Marks, SocketAddrV4};
@@ -20,11 +21,11 @@ fn sent(client: bool, flow: UdpFlow, out: &mut [u8]) -> usize {
     built.unwrap_or(0)
 }
 
-fn both(rt: &impl Print, client: bool, marked: UdpFlow, plain: UdpFlow) -> io::Result<()> {
+fn both(rt: &impl Print, client: bool, flows: Flows<UdpFlow>) -> io::Result<()> {
     let mut a = [0u8; 32];
     let mut b = [0u8; 32];
-    let n = sent(client, marked, &mut a);
-    let m = sent(client, plain, &mut b);
+    let n = sent(client, flows.marked, &mut a);
+    let m = sent(client, flows.plain, &mut b);
     shown::show_both(rt, front(&a, n), front(&b, m))
 }
 
@@ -35,9 +36,12 @@ pub(crate) fn calls(
     marks: Marks,
 ) -> io::Result<()> {
     let plain = UdpFlow::new(cl, sv);
-    let marked = plain.marked(marks);
+    let flows = Flows {
+        marked: plain.marked(marks),
+        plain,
+    };
     println!(rt; "UDP, the client's datagram")?;
-    both(rt, true, marked, plain)?;
+    both(rt, true, flows)?;
     println!(rt; "UDP, the server's datagram")?;
-    both(rt, false, marked, plain)
+    both(rt, false, flows)
 }

@@ -4,6 +4,7 @@
 // call. After it, every written byte is compared and every one of the MARGIN bytes behind is still MARK.
 ghost use Rattle.std.specs.Prelude.{◌≡◌, ◌≤◌, length};
 
+use crate::place::Form;
 use crate::state::Now;
 use crate::{fields, place};
 use ezpkt::part::{back, front};
@@ -85,7 +86,7 @@ pub(crate) fn with(now: Now, out: &[u8]) -> Now {
 
 // Whether the file has the n bytes of a call, and not only the digest of all that the case wrote.
 fn is_shown(kind: u8, n: usize) -> bool {
-    n <= 128 && place::form(kind) != b'n'
+    n <= 128 && place::form_of(kind) != Form::Many
 }
 
 // How many bytes of the case tell what was written.

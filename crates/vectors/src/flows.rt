@@ -1,6 +1,7 @@
 // Kinds 10 to 53: calls that write packets, and the other calls of the flows.
 ghost use Rattle.std.specs.Prelude.{◌≤◌};
 
+use crate::place::Form;
 use crate::state::Now;
 use crate::{answer, fields, icmp, payload, pieces, place, state, tcp, udp};
 use ezpkt::part::back;
@@ -9,7 +10,7 @@ use ezpkt::part::back;
 fn times(kind: u8, a: &[u8]) -> u32
     ensures { result ≤ 100000 }
 {
-    if place::form(kind) != b'n' {
+    if place::form_of(kind) != Form::Many {
         return 1;
     }
     if kind / 16 != 3 {
@@ -19,21 +20,16 @@ fn times(kind: u8, a: &[u8]) -> u32
     if n > 100000 { 0 } else { n }
 }
 
-fn part_of(total: usize, n: u32) -> usize {
-    if n == 0 {
-        return 0;
-    }
-    total / (n as usize)
-}
-
 // How many bytes each call of the case writes, as the answer in a tells: behind the lengths, if it has
 // them.
 fn each(kind: u8, a: &[u8]) -> usize {
     let e = back(a, place::skip(kind));
-    if place::form(kind) == b'3' {
+    if place::form_of(kind) == Form::UpToThree {
         return fields::size(e, 1 + 4 * (fields::byte(e, 0) as usize));
     }
-    part_of(fields::size(e, 0), times(kind, a))
+    fields::size(e, 0)
+        .checked_div(times(kind, a) as usize)
+        .unwrap_or(0)
 }
 
 // The call of a kind. What it wrote stays none, where it was refused or the case has what no call has.
@@ -58,7 +54,7 @@ fn again(now: Now, kind: u8, b: &[u8], bytes: &[u8], frag_off: u16, out: &mut [u
 
 // The two bytes before the answer of a case of one call are frag_off, where the kind has it.
 fn first_frag_off(kind: u8, a: &[u8]) -> u16 {
-    if place::form(kind) == b'n' {
+    if place::form_of(kind) == Form::Many {
         return 0;
     }
     fields::two(a, place::skip(kind).wrapping_sub(2))
@@ -81,7 +77,7 @@ fn every(now: Now, kind: u8, b: &[u8], bytes: &[u8], out: &mut [u8]) -> Now {
 fn counts_size(kind: u8, count: u8) -> usize
     ensures { result ≤ 1021 }
 {
-    if place::form(kind) == b'3' {
+    if place::form_of(kind) == Form::UpToThree {
         return 1 + 4 * (count as usize);
     }
     0
@@ -100,10 +96,10 @@ fn are_ends(e: &[u8], now: Now) -> bool {
 // Whether as many packets were written as the answer e tells, each of its length; where the call is made
 // many times, whether the last one wrote any.
 fn are_counts(kind: u8, e: &[u8], now: Now) -> bool {
-    match place::form(kind) {
-        b'1' => now.count == 1,
-        b'3' => now.count == fields::byte(e, 0) && are_ends(back(e, 1), now),
-        _ => now.count > 0,
+    match place::form_of(kind) {
+        Form::One => now.count == 1,
+        Form::UpToThree => now.count == fields::byte(e, 0) && are_ends(back(e, 1), now),
+        Form::Many | Form::Nothing => now.count > 0,
     }
 }
 
@@ -125,7 +121,8 @@ fn compared(before: Now, now: Now, kind: u8, b: &[u8], out: &[u8]) -> Now {
     let end = at + answer::span(kind, now.end);
     let counts = are_counts(kind, back(a, skip), now);
     let bytes = answer::tells(kind, back(a, at), now, out);
-    state::told(now, counts & bytes & has_state(kind, a, end, before, now))
+    let same = counts && bytes && has_state(kind, a, end, before, now);
+    state::told(now, same)
 }
 
 // A datagram without checksum is refused, and what the Rust wrote does not count.
@@ -146,7 +143,7 @@ fn sending(now: Now, kind: u8, b: &[u8], bytes: &[u8]) -> Now {
 
 // The case on the flows.
 pub(crate) fn call(now: Now, kind: u8, b: &[u8]) -> Now {
-    if place::form(kind) > b'-' {
+    if place::form_of(kind) != Form::Nothing {
         let mut data = io::large_buffer();
         let n = payload::make(kind, b, &mut data);
         return sending(now, kind, b, &data[0..n]);

@@ -3,6 +3,7 @@
 // The buffer that is lent is as long as the largest end that the packet reaches, and MARGIN more. All
 // of it is MARK before the packet is made. After every case all bytes before the end are compared, by
 // their digest, and every byte from the end on is still MARK.
+use crate::place::Form;
 use crate::state::Now;
 use crate::{answer, fields, payload, place, state};
 use ezpkt::part::{back, front};
@@ -197,7 +198,7 @@ fn compared(
     match got {
         Ok(n) => {
             let next = answer::with(state::wrote(answer::begun(now), n), out);
-            let same = answer::tells(kind, e, next, out) & is_foretold(kind, p, n, buf);
+            let same = answer::tells(kind, e, next, out) && is_foretold(kind, p, n, buf);
             recorded(state::told(next, same), back(e, answer::span(kind, n)), buf)
         }
         Err(_) => state::told(now, false),
@@ -220,7 +221,7 @@ fn read(now: Now, kind: u8, b: &[u8], e: &[u8], buf: &[u8]) -> Now {
 // The case in the bytes that are lent to the packet.
 fn within(now: Now, kind: u8, b: &[u8], buf: &mut [u8]) -> Now {
     let e = back(payload::behind(kind, b), place::skip(kind));
-    if place::form(kind) == b'1' {
+    if place::form_of(kind) == Form::One {
         return read(now, kind, b, e, buf);
     }
     recorded(without_copy(now, kind, b, buf), e, buf)

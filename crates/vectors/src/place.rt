@@ -28,10 +28,18 @@ pub(crate) fn before_payload(kind: u8) -> usize {
     }
 }
 
-// What the calls of a kind write into a lent buffer: 1 where it is one packet, a part of one or a dump, 3
-// where it is one to three packets, n where the call is made many times, and - where it is nothing. The
-// headers of kinds 49 and 4a come back by value.
-pub(crate) fn form(kind: u8) -> u8 {
+// What the calls of a kind write into a lent buffer: nothing, one packet (or a part of one, or a dump), one to
+// three packets, or what a call writes that is made many times.
+#[derive(Clone, Copy, PartialEq, Eq, Drop)]
+pub(crate) enum Form {
+    Nothing,
+    One,
+    UpToThree,
+    Many,
+}
+
+// The form of a kind. The headers of kinds 49 and 4a come back by value.
+pub(crate) fn form_of(kind: u8) -> Form {
     let table = b"\
 ----------------\
 111-------------\
@@ -40,7 +48,12 @@ pub(crate) fn form(kind: u8) -> u8 {
 -----1111--33311\
 33nn------------\
 --------1111-1--";
-    fields::byte(table, kind as usize)
+    match fields::byte(table, kind as usize) {
+        b'1' => Form::One,
+        b'3' => Form::UpToThree,
+        b'n' => Form::Many,
+        _ => Form::Nothing,
+    }
 }
 
 // How many bytes stand before what was written, or before the record in kinds 60 to 6f that copy nothing
