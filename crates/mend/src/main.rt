@@ -4,13 +4,10 @@
 
 ghost use Rattle.std.specs.Prelude.{◌≤◌, length};
 
-use mending::Mended;
-use pkt::refusal;
+use pkt::refusal::{ListRefusal, Refusal};
 use std::env::FillError;
 use std::io::{Error, Read};
 use std::rt::Env;
-
-const STDERR_FILENO: i32 = 2;
 
 // The bytes of the longest capture that is taken.
 const MOST: usize = 65536;
@@ -48,58 +45,50 @@ fn fill(from: &mut impl Read, buf: &mut [u8]) -> Got
     Got { n, failed: None }
 }
 
-// Words alone.
-fn say(words: &[u8]) {
-    io::write_all(STDERR_FILENO, words);
-}
-
-// Words, and a number in decimal.
-fn say_number(words: &[u8], n: usize) {
-    say(words);
-    io::print_decimal(STDERR_FILENO, n as u64);
-}
-
-// Words, and a checksum in four hexadecimal digits.
-fn say_sum(words: &[u8], n: usize) {
-    say(words);
-    io::print_hex(STDERR_FILENO, n as u64, 4);
-}
-
 // Which checksum.
-fn say_field(which: usize) {
+fn field_name(which: usize) -> &'static str {
     if which == mending::IPV4 {
-        say(b", IPv4 checksum");
+        "IPv4"
     } else {
-        say(b", transport checksum");
+        "transport"
     }
 }
 
 // A line for one change: the record's number, which checksum, what it was and what it is.
-fn say_change(change: [usize; 4]) {
-    say_number(b"mend: record ", change[0]);
-    say_field(change[1]);
-    say_sum(b": was 0x", change[2]);
-    say_sum(b", is now 0x", change[3]);
-    say(b"\n");
+fn say_change(rt: &impl Eprint, change: [usize; 4]) {
+    let [record, which, old, new] = change;
+    let _ = eprintln!(rt;
+        "mend: record {record}, {} checksum: was 0x{old:04x}, is now 0x{new:04x}",
+        field_name(which)
+    );
 }
 
-// Why nothing is written.
-fn say_refused(number: u8) {
-    say_number(b"mend: refused by ", number as usize);
-    if number == refusal::NOT_CAPTURE {
-        say(
-            b": the input does not begin with the header of a classic pcap capture, little-endian, version 2.4, with microseconds, snap length 65,535 and link type 101\n",
-        );
+// Why a refusal is given for the whole of a capture.
+fn reason(refusal: Refusal) -> &'static str {
+    if refusal == Refusal::NotCapture {
+        "the input does not begin with the header of a classic pcap capture, little-endian, version 2.4, with microseconds, snap length 65,535 and link type 101"
     } else {
-        say(b": there is no room for the mended capture or its changes\n");
+        "there is no room for the mended capture or its changes"
     }
 }
 
-// .. where that lies in a record.
-fn say_refused_at(number: u8, record: usize) {
-    say_number(b"mend: refused by ", number as usize);
-    say_number(b": record ", record);
-    say(b" is cut short, or has more than 65,535 bytes\n");
+// Why nothing is written.
+fn say_refused(rt: &impl Eprint, refused: ListRefusal) {
+    let _ = match refused {
+        ListRefusal::Whole(refusal) => {
+            eprintln!(rt;
+                "mend: refused by {}: {}",
+                refusal.number(),
+                reason(refusal)
+            )
+        }
+        ListRefusal::At(refusal, record) => {
+            eprintln!(rt;
+                "mend: refused by {}: record {record} is cut short, or has more than 65,535 bytes",
+                refusal.number()
+            )
+        }
+    };
 }
 
 // The mended capture, and a line for each change.
@@ -108,8 +97,8 @@ fn write(rt: &(impl Print + Eprint), capture: &[u8], changes: &[[usize; 4]]) {
         say_failed(rt, "standard output", e);
         return;
     }
-    for i in 0..changes.len() {
-        say_change(changes[i]);
+    for change in changes {
+        say_change(rt, *change);
     }
 }
 
@@ -118,9 +107,8 @@ fn run(rt: &(impl Print + Eprint), capture: &[u8]) {
     let mut out = [0u8; MOST];
     let mut rows = [[0usize; 4]; MOST_CHANGES];
     match mending::mend(capture, &mut out, &mut rows) {
-        Mended::Written { bytes, changes } => write(rt, &out[0..bytes], &rows[0..changes]),
-        Mended::Refused(number) => say_refused(number),
-        Mended::RefusedAt(number, record) => say_refused_at(number, record),
+        Ok(counts) => write(rt, &out[0..counts.bytes], &rows[0..counts.changed]),
+        Err(refused) => say_refused(rt, refused),
     }
 }
 
@@ -132,7 +120,7 @@ fn has_words(rt: &impl Env) -> bool {
 // Reads a capture; a byte more than the longest has shows that there is more.
 fn main(rt: HostRuntime) {
     if has_words(&rt) {
-        say(b"mend wants no words, as in: mend < old.pcap > new.pcap\n");
+        let _ = rt.eprintln("mend wants no words, as in: mend < old.pcap > new.pcap");
         return;
     }
     let mut input = [0u8; MOST + 1];
@@ -143,7 +131,7 @@ fn main(rt: HostRuntime) {
         return;
     }
     if MOST < n {
-        say(b"mend: more than 65,536 bytes of input\n");
+        let _ = rt.eprintln("mend: more than 65,536 bytes of input");
         return;
     }
     run(&rt, &input[0..n]);

@@ -2,36 +2,44 @@
 use crate::made::flow_at;
 use crate::shown::show;
 use ezpkt::part::front;
+use std::io;
 
 // Three ends.
-fn three(words: &[u8], packets: &[u8], a: usize, b: usize, c: usize) {
-    show(words, packets, &[a, b, c]);
+fn three(
+    rt: &impl Print,
+    what: &str,
+    packets: &[u8],
+    a: usize,
+    b: usize,
+    c: usize,
+) -> io::Result<()> {
+    show(rt, what, packets, &[a, b, c])
 }
 
 // Lists that are reported.
-fn right(packets: &[u8]) {
-    show(b"no ends", packets, &[]);
-    three(b"the three packets", packets, 40, 80, 120);
-    three(b"an end equal to the one before", packets, 40, 40, 80);
-    three(b"a first end of 0", packets, 0, 40, 80);
-    three(b"a packet cut in two", packets, 20, 40, 80);
-    show(b"no ends and no bytes", front(packets, 0), &[]);
+fn right(rt: &impl Print, packets: &[u8]) -> io::Result<()> {
+    show(rt, "no ends", packets, &[])?;
+    three(rt, "the three packets", packets, 40, 80, 120)?;
+    three(rt, "an end equal to the one before", packets, 40, 40, 80)?;
+    three(rt, "a first end of 0", packets, 0, 40, 80)?;
+    three(rt, "a packet cut in two", packets, 20, 40, 80)?;
+    show(rt, "no ends and no bytes", front(packets, 0), &[])
 }
 
 // Lists with a wrong end.
-fn wrong(packets: &[u8]) {
-    three(b"an end below the one before", packets, 40, 39, 80);
-    three(b"a last end below the one before", packets, 80, 120, 40);
-    three(b"an end past the bytes", packets, 40, 80, 121);
-    three(b"the largest end", packets, 0xffffffffffffffff, 40, 80);
-    three(b"one below, then one past", packets, 80, 40, 121);
-    three(b"one past, then one below", packets, 40, 121, 80);
+fn wrong(rt: &impl Print, packets: &[u8]) -> io::Result<()> {
+    three(rt, "an end below the one before", packets, 40, 39, 80)?;
+    three(rt, "a last end below the one before", packets, 80, 120, 40)?;
+    three(rt, "an end past the bytes", packets, 40, 80, 121)?;
+    three(rt, "the largest end", packets, 0xffffffffffffffff, 40, 80)?;
+    three(rt, "one below, then one past", packets, 80, 40, 121)?;
+    three(rt, "one past, then one below", packets, 40, 121, 80)
 }
 
 // All of them.
-pub(crate) fn each() {
+pub(crate) fn each(rt: &impl Print) -> io::Result<()> {
     let mut packets = [0u8; 120];
-    flow_at(1000, 5000).open(&mut packets);
-    right(&packets);
-    wrong(&packets);
+    let _ = flow_at(1000, 5000).open(&mut packets);
+    right(rt, &packets)?;
+    wrong(rt, &packets)
 }

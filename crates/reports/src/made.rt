@@ -37,15 +37,14 @@ fn segment(seq: u32, flags: u8) -> Request {
 
 // .. with a payload, at a place where there is room for it.
 pub(crate) fn put_segment(seq: u32, flags: u8, payload: &[u8], at: usize, out: &mut [u8]) {
-    if at <= out.len() {
-        build::build(segment(seq, flags), payload, &mut out[at..]);
+    if let Some(rest) = out.get_mut(at..) {
+        let _ = build::build(segment(seq, flags), payload, rest);
     }
 }
 
 // Bytes at a place, where there is room for them.
 pub(crate) fn put_bytes(bytes: &[u8], at: usize, out: &mut [u8]) {
-    if at <= out.len() {
-        let rest = &mut out[at..];
+    if let Some(rest) = out.get_mut(at..) {
         if bytes.len() <= rest.len() {
             copy(bytes, rest);
         }

@@ -12,10 +12,12 @@ mod many;
 mod sent;
 mod shown;
 
-fn main() {
-    ends::each();
-    arrivals::each();
-    flows::each();
-    kinds::each();
-    many::each();
+use std::io;
+
+fn main(rt: HostRuntime) -> io::Result<()> {
+    ends::each(&rt)?;
+    arrivals::each(&rt)?;
+    flows::each(&rt)?;
+    kinds::each(&rt)?;
+    many::each(&rt)
 }

@@ -1,13 +1,14 @@
 // What a flow sends at a place, where there is room for it, and the flow then.
+use pkt::refusal::Refusal;
 use tcp4::{Sent, TcpFlow};
 
 // The flow after a call; it stays where nothing was sent.
-fn after(flow: TcpFlow, sent: Sent) -> TcpFlow {
+fn after(flow: TcpFlow, sent: Result<Sent, Refusal>) -> TcpFlow {
     match sent {
-        Sent::One(next, _) => next,
-        Sent::Two(next, _, _) => next,
-        Sent::Three(next, _, _, _) => next,
-        Sent::Refused(_) => flow,
+        Ok(Sent::One(next, _)) => next,
+        Ok(Sent::Two(next, _, _)) => next,
+        Ok(Sent::Three(next, _, _, _)) => next,
+        Err(_) => flow,
     }
 }
 
@@ -18,24 +19,24 @@ pub(crate) fn open(flow: TcpFlow, out: &mut [u8]) -> TcpFlow {
 
 // The client's message, and the server's acknowledgment.
 pub(crate) fn tell(flow: TcpFlow, bytes: &[u8], at: usize, out: &mut [u8]) -> TcpFlow {
-    if out.len() < at {
-        return flow;
+    match out.get_mut(at..) {
+        Some(rest) => after(flow, flow.client_message(bytes, true, 0, rest)),
+        None => flow,
     }
-    after(flow, flow.client_message(bytes, true, 0, &mut out[at..]))
 }
 
 // The server's message, and no acknowledgment.
 pub(crate) fn answer(flow: TcpFlow, bytes: &[u8], at: usize, out: &mut [u8]) -> TcpFlow {
-    if out.len() < at {
-        return flow;
+    match out.get_mut(at..) {
+        Some(rest) => after(flow, flow.server_message(bytes, false, 0, rest)),
+        None => flow,
     }
-    after(flow, flow.server_message(bytes, false, 0, &mut out[at..]))
 }
 
 // The three packets by which the client closes it.
 pub(crate) fn close(flow: TcpFlow, at: usize, out: &mut [u8]) -> TcpFlow {
-    if out.len() < at {
-        return flow;
+    match out.get_mut(at..) {
+        Some(rest) => after(flow, flow.client_close(rest)),
+        None => flow,
     }
-    after(flow, flow.client_close(&mut out[at..]))
 }
