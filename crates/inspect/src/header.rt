@@ -39,7 +39,7 @@ pub(crate) fn be16(s: &[u8], at: usize) -> u16
     requires { at + 2 ≤ length s.now }
     ensures { result ≡ field_at s.now at 2 }
 {
-    (s[at] as u16) * 256 + s[at + 1] as u16
+    u16::from_be_bytes([s[at], s[at + 1]])
 }
 
 // The number in four bytes.
@@ -47,7 +47,7 @@ pub(crate) fn be32(s: &[u8], at: usize) -> u32
     requires { at + 4 ≤ length s.now }
     ensures { result ≡ field_at s.now at 4 }
 {
-    (be16(s, at) as u32) * 65536 + be16(s, at + 2) as u32
+    u32::from_be_bytes([s[at], s[at + 1], s[at + 2], s[at + 3]])
 }
 
 // What the first 20 bytes say. The bits below MF are the offset.

@@ -3,10 +3,10 @@ use Rattle.std.specs.Prelude.{Option, None, Some, Result, Ok, Err}
 use mathlib.Core.Path.{◌≡◌, refl, sym, ap, ◌∙◌, subst}
 use mathlib.Core.Bool.{Bool, true, false, cond}
 use mathlib.Core.List.{List}
-use Prim.Native.Nat.{ℕ, ◌+◌, ◌*◌, ◌<◌, ◌≤◌}
+use Prim.Native.Nat.{ℕ, ◌+◌, ◌*◌, ◌≤◌}
 use native.Mathlib.Omega.{arith}
 use lib.Dec.{ltb}
-use lib.ListN.{length, get_or, set, length-replicate}
+use lib.ListN.{length, set, length-replicate}
 use Rattle.pkt.specs.Answers.{Answer, refused, gives, and_then, mapped, says}
 use Rattle.pkt.specs.Refusal.{number_of}
 use Rattle.pkt.specs.declared.refusal.Refusal.{Refusal}
@@ -28,7 +28,6 @@ use Rattle.table.specs.declared.TakenOut.{TakenOut}
 use Rattle.table.specs.Slots.{slot_bytes, slot_map, part_of, with_part, free_slot, state_at, key_from, free_from, table_fits, Sized}
 use Rattle.table.specs.Steps.{landing_of, Lands, FitsSlot, OutOf}
 use Rattle.table.specs.Table.{Placing, placing, opened_at, placed_at, place_for, stepped_by, piece_for, table_take, Tables, held_for, discard_answer, slots_without, part_without, Discards, Outing, out_of, out_answer, slot_in, datagram_in, TakesOut}
-use Rattle.table.proofs.Lowest.{past as past-slot, read_within}
 use Rattle.table.proofs.Parts.{part_back, part_again}
 use Rattle.table.proofs.Stepping.{any_number}
 
@@ -133,13 +132,6 @@ opened_step d m d₁ m₁ k x i p r d' m' at ex ed em y =
       payloads_are = w.payloads_are ∙ ap (with_part slot_bytes i _) ed ∙ part_again slot_bytes i (zeros slot_bytes) _ d zd id;
       maps_are = w.maps_are ∙ ap (with_part slot_map i _) em ∙ part_again slot_map i (zeros slot_map) _ m zm im;
     }
-
--- A step on the slot that the kit reads at i is the step on slot i.
-pub read_step : (t : List Slot) (d m : List ℕ) (i : ℕ) (p : Piece) (r : Result Landing Refusal) (d' m' : List ℕ) → i < length t
-    → Lands (gives (placing i (step (view (get_or t i past-slot).rec (part_of slot_bytes i d) (part_of slot_map i m)) p))) d m r d' m'
-    → Lands (gives (placing i (step (state_at t d m i) p))) d m r d' m'
-read_step t d m i p r d' m' lt x =
-    subst (λ (s : Slot). Lands (gives (placing i (step (view s.rec (part_of slot_bytes i d) (part_of slot_map i m)) p))) d m r d' m') (read_within t i lt) x
 
 -- ---- discarding
 

@@ -2,7 +2,6 @@
 use Rattle.std.specs.Prelude.{Option, None, Some, is_some}
 use mathlib.Core.Path.{◌≡◌, refl, sym, ap, ◌∙◌}
 use Prim.Native.Nat.{ℕ, zero, suc, ◌+◌, ◌-◌, ◌*◌, ◌<◌, ◌≤◌}
-use native.Mathlib.Nat.{not-suc-le-zero, le_of_suc-le-suc}
 use native.Mathlib.Omega.{arith}
 use native.Mathlib.Numerals.{add-one}
 use mathlib.Core.Bool.{Bool, true, false, not, ◌&&◌, cond, true≢false}
@@ -16,30 +15,11 @@ use Rattle.assembly.specs.declared.Key.{Key}
 use Rattle.assembly.specs.Assembly.{record_fits}
 use Rattle.assembly.specs.Carried.{same_key}
 use Rattle.table.specs.declared.Slot.{Slot}
-use Rattle.table.specs.Slots.{slots, slot_bytes, slot_map, no_key, free_slot, holds_key, key_from, free_from}
+use Rattle.table.specs.Slots.{slots, slot_bytes, slot_map, free_slot, holds_key, key_from, free_from}
 use Rattle.table.specs.Slots.{slot_fits, all_fit, key_again, key_twice, table_fits, Sized}
 use Rattle.table.specs.Steps.{Occupied}
 
 -- ---- one slot
-
--- A slot that is free and has no key is the free slot.
-pub slot_free : (k : Key) → k ≡ no_key
-    → ◌≡◌ {A = Slot} (record { used = false; rec = record { key = k; total = None; floor = 0; spoilt = false } }) free_slot
-slot_free k e = ap (λ (x : Key). record { used = false; rec = record { key = x; total = None; floor = 0; spoilt = false } }) e
-
--- what reading a slot behind the last one gives
-abbrev pub past : Slot
-past = record { used = false; rec = record { key = no_key; total = None; floor = 0; spoilt = false } }
-
--- a slot that is there is the same, whatever is told past the end
-pub same_element : (t : List Slot) (i : ℕ) (x y : Slot) → i < length t → get_or t i x ≡ get_or t i y
-same_element [] i x y h = absurd (not-suc-le-zero h)
-same_element (s ∷ t) zero x y h = refl
-same_element (s ∷ t) (suc i) x y h = same_element t i x y (le_of_suc-le-suc h)
-
--- Below the length it does not matter what is read behind the last.
-pub read_within : (t : List Slot) (i : ℕ) → i < length t → get_or t i past ≡ get_or t i free_slot
-read_within t i h = same_element t i past free_slot h
 
 -- An occupied slot has the key of its record.
 pub used_holds : (k : Key) (s : Slot) (b : Bool) → s.used ≡ true → b ≡ same_key s.rec.key k → b ≡ holds_key k s
@@ -86,55 +66,55 @@ free_again s t u = sym (pick_no (is_some (key_from 0 s.rec.key t)) false u)
 
 module _ (t : List Slot) (i : ℕ) (h : i < length t) where
   -- the lowest slot with a key is slot i or is found behind it
-  key_next : (k : Key) → key_from i k (drop i t) ≡ cond (holds_key k (get_or t i past)) (Some i) (key_from (i + 1) k (drop (i + 1) t))
+  key_next : (k : Key) → key_from i k (drop i t) ≡ cond (holds_key k (get_or t i free_slot)) (Some i) (key_from (i + 1) k (drop (i + 1) t))
   unfolding key_from
-  key_next k = rw add-one (ap (key_from i k) (drop-cons t i past h))
+  key_next k = rw add-one (ap (key_from i k) (drop-cons t i free_slot h))
 
   -- .. slot i, if it has the key
-  pub key_here : (k : Key) → holds_key k (get_or t i past) ≡ true → key_from i k (drop i t) ≡ Some i
+  pub key_here : (k : Key) → holds_key k (get_or t i free_slot) ≡ true → key_from i k (drop i t) ≡ Some i
   key_here k e = key_next k ∙ pick_yes _ _ e
 
   -- .. behind it, if it does not
-  pub key_on : (k : Key) → holds_key k (get_or t i past) ≡ false → key_from i k (drop i t) ≡ key_from (i + 1) k (drop (i + 1) t)
+  pub key_on : (k : Key) → holds_key k (get_or t i free_slot) ≡ false → key_from i k (drop i t) ≡ key_from (i + 1) k (drop (i + 1) t)
   key_on k e = key_next k ∙ pick_no _ _ e
 
   -- the lowest free slot is slot i or is found behind it
-  free_next : free_from i (drop i t) ≡ cond (get_or t i past).used (free_from (i + 1) (drop (i + 1) t)) (Some i)
+  free_next : free_from i (drop i t) ≡ cond (get_or t i free_slot).used (free_from (i + 1) (drop (i + 1) t)) (Some i)
   unfolding free_from
-  free_next = rw add-one (ap (free_from i) (drop-cons t i past h))
+  free_next = rw add-one (ap (free_from i) (drop-cons t i free_slot h))
 
   -- .. slot i, if it is free
-  pub free_here : (get_or t i past).used ≡ false → free_from i (drop i t) ≡ Some i
+  pub free_here : (get_or t i free_slot).used ≡ false → free_from i (drop i t) ≡ Some i
   free_here e = free_next ∙ pick_no _ _ e
 
   -- .. behind it, if it is occupied
-  pub free_on : (get_or t i past).used ≡ true → free_from i (drop i t) ≡ free_from (i + 1) (drop (i + 1) t)
+  pub free_on : (get_or t i free_slot).used ≡ true → free_from i (drop i t) ≡ free_from (i + 1) (drop (i + 1) t)
   free_on e = free_next ∙ pick_yes _ _ e
 
   -- the slots fit where slot i fits and those behind it do
-  fit_next : all_fit (drop i t) ≡ cond (slot_fits (get_or t i past)) (all_fit (drop (i + 1) t)) false
+  fit_next : all_fit (drop i t) ≡ cond (slot_fits (get_or t i free_slot)) (all_fit (drop (i + 1) t)) false
   unfolding all_fit
-  fit_next = rw add-one (ap all_fit (drop-cons t i past h))
+  fit_next = rw add-one (ap all_fit (drop-cons t i free_slot h))
 
   -- .. not, if slot i does not fit
-  pub fit_not : slot_fits (get_or t i past) ≡ false → all_fit (drop i t) ≡ false
+  pub fit_not : slot_fits (get_or t i free_slot) ≡ false → all_fit (drop i t) ≡ false
   fit_not e = fit_next ∙ pick_no _ _ e
 
   -- .. as those behind it, if it fits
-  pub fit_on : slot_fits (get_or t i past) ≡ true → all_fit (drop i t) ≡ all_fit (drop (i + 1) t)
+  pub fit_on : slot_fits (get_or t i free_slot) ≡ true → all_fit (drop i t) ≡ all_fit (drop (i + 1) t)
   fit_on e = fit_next ∙ pick_yes _ _ e
 
   -- a key is twice in the slots where slot i has it again behind it, or one behind it has
-  twice_next : key_twice (drop i t) ≡ cond (key_again (get_or t i past) (drop (i + 1) t)) true (key_twice (drop (i + 1) t))
+  twice_next : key_twice (drop i t) ≡ cond (key_again (get_or t i free_slot) (drop (i + 1) t)) true (key_twice (drop (i + 1) t))
   unfolding key_twice
-  twice_next = rw add-one (ap key_twice (drop-cons t i past h))
+  twice_next = rw add-one (ap key_twice (drop-cons t i free_slot h))
 
   -- .. where slot i has it again
-  pub twice_here : key_again (get_or t i past) (drop (i + 1) t) ≡ true → key_twice (drop i t) ≡ true
+  pub twice_here : key_again (get_or t i free_slot) (drop (i + 1) t) ≡ true → key_twice (drop i t) ≡ true
   twice_here e = twice_next ∙ pick_yes _ _ e
 
   -- .. as behind it, if slot i has not
-  pub twice_on : key_again (get_or t i past) (drop (i + 1) t) ≡ false → key_twice (drop i t) ≡ key_twice (drop (i + 1) t)
+  pub twice_on : key_again (get_or t i free_slot) (drop (i + 1) t) ≡ false → key_twice (drop i t) ≡ key_twice (drop (i + 1) t)
   twice_on e = twice_next ∙ pick_no _ _ e
 
 -- ---- behind the last slot

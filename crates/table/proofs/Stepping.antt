@@ -36,7 +36,7 @@ use Rattle.table.specs.declared.TakenOut.{TakenOut}
 use Rattle.table.specs.Slots.{slots, slot_bytes, slot_map, part_of, with_part, free_slot, state_at}
 use Rattle.table.specs.Table.{Placing, placing, slots_after, Tables, Outing, outing, out_of, slots_without, part_without, slot_in, datagram_in}
 use Rattle.table.specs.Steps.{Stored, landed_of, Lands, PutAsks, Occupied, length_in, MovedOut, OutOf}
-use Rattle.table.proofs.Lowest.{usable_record, same_element}
+use Rattle.table.proofs.Lowest.{usable_record}
 use Rattle.table.proofs.Parts.{lent, back, lent_part, back_part, payload_length, map_length, first_of}
 
 -- ---- a step on a slot
@@ -186,24 +186,18 @@ length_by_lem p s e = same p ∙ ap length_of e ∙ ap (λ (b : Bool). cond b (g
     same (progress.Complete n) = refl
     same progress.Spoilt = refl
 
--- of an occupied slot that is read with x past the end
-module _ (t : List Slot) (x : Slot) (i : ℕ) (d m : List ℕ) (l : length t ≡ slots) (h : Occupied t i (length d) (length m)) where
+-- of an occupied slot
+module _ (t : List Slot) (i : ℕ) (d m : List ℕ) (h : Occupied t i (length d) (length m)) where
   abbrev told : Answer Standing
-  told = any_progress (view (get_or t i x).rec (lent slot_bytes i d) (lent slot_map i m))
+  told = any_progress (view (get_or t i free_slot).rec (lent slot_bytes i d) (lent slot_map i m))
 
   -- 11 is not given,
-  read_stands : told ≡ gives (standing_of (state_at t d m i))
-  read_stands =
-      let z = h.sized in
-      let y : get_or t i x ≡ get_or t i free_slot = same_element t i x free_slot (omega arith) in
-      ap (λ (u : Slot). any_progress (view u.rec (lent slot_bytes i d) (lent slot_map i m))) y ∙ held_stands t i d m h
-
   pub never_eleven : (n : ℕ) → refused n ≡ told → ⊥
-  never_eleven n e = let w = e ∙ read_stands in let z : ◌≡◌ {A = ℕ} 0 1 = cc in omega arith
+  never_eleven n e = let w = e ∙ held_stands t i d m h in let z : ◌≡◌ {A = ℕ} 0 1 = cc in omega arith
 
   -- and progress p, which is q, tells the length
   pub length_told : (p q : Progress) → gives (stands p) ≡ told → p ≡ q → length_by q ≡ length_in (state_at t d m i)
-  length_told p q e g = let w = e ∙ read_stands in ap length_by (sym g) ∙ length_by_lem p (state_at t d m i) (cc w)
+  length_told p q e g = let w = e ∙ held_stands t i d m h in ap length_by (sym g) ∙ length_by_lem p (state_at t d m i) (cc w)
 
 -- a length that is given is that of what is held
 pub length_held : (s : State) (n : ℕ) → gives n ≡ length_in s → n ≡ length (held_bytes s)

@@ -361,6 +361,7 @@ fn empty_at(table: [Slot; 8], i: usize, payloads: &mut [u8], maps: &mut [u8]) ->
     update(table, i, slot)
 }
 
+// As `refuse`, for discarding: one function for the three calls would have one type for their answers, and lose what each gives.
 fn keep(table: [Slot; 8], refusal: Refusal) -> Discarded
     ensures { (result.table ≡ table) × (says result.answer ≡ refused (number_of refusal)) }
 {
@@ -385,6 +386,7 @@ pub fn discard(table: [Slot; 8], key: Key, payloads: &mut [u8], maps: &mut [u8])
     }
 }
 
+// .. and for taking out.
 fn stay(table: [Slot; 8], refusal: Refusal) -> TakenOut
     ensures { (result.table ≡ table) × (says result.answer ≡ refused (number_of refusal)) }
 {

@@ -4,16 +4,16 @@ use Rattle.table.proofs.length_at.Goals as goal
 
 pub returns-in_err-standing : goal.returns-in_err-standing
 returns-in_err-standing c =
-    absurd (never_eleven c.args.table _ c.args.i c.args.payloads.now c.args.maps.now c.well_formed.0.1.0.1 c.requires _ c.in_err-standing.ensures)
+    absurd (never_eleven c.args.table c.args.i c.args.payloads.now c.args.maps.now c.requires _ c.in_err-standing.ensures)
 
 pub returns-in-Complete : goal.returns-in-Complete
 returns-in-Complete c =
-    length_told c.args.table _ c.args.i c.args.payloads.now c.args.maps.now c.well_formed.0.1.0.1 c.requires _ _ c.in_ok-standing.ensures c.in-Complete.is
+    length_told c.args.table c.args.i c.args.payloads.now c.args.maps.now c.requires _ _ c.in_ok-standing.ensures c.in-Complete.is
 
 pub returns-in-Waiting : goal.returns-in-Waiting
 returns-in-Waiting c =
-    length_told c.args.table _ c.args.i c.args.payloads.now c.args.maps.now c.well_formed.0.1.0.1 c.requires _ _ c.in_ok-standing.ensures c.in-Waiting.is
+    length_told c.args.table c.args.i c.args.payloads.now c.args.maps.now c.requires _ _ c.in_ok-standing.ensures c.in-Waiting.is
 
 pub returns-in-Spoilt : goal.returns-in-Spoilt
 returns-in-Spoilt c =
-    length_told c.args.table _ c.args.i c.args.payloads.now c.args.maps.now c.well_formed.0.1.0.1 c.requires _ _ c.in_ok-standing.ensures c.in-Spoilt.is
+    length_told c.args.table c.args.i c.args.payloads.now c.args.maps.now c.requires _ _ c.in_ok-standing.ensures c.in-Spoilt.is

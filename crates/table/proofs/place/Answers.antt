@@ -1,18 +1,15 @@
 use Rattle.std.specs.Prelude.{None, Some}
-use mathlib.Core.Path.{◌≡◌, sym, ap, subst, ◌∙◌}
-use mathlib.Core.Bool.{true}
+use mathlib.Core.Path.{◌≡◌, sym, ap, ◌∙◌}
 use Prim.Native.Nat.{ℕ, ◌<◌}
 use lib.ListN.{length}
 use native.Mathlib.Omega.{arith}
 use borrow.Author.Rules.{rules}
 use Rattle.assembly.specs.declared.Key.{Key}
-use Rattle.assembly.specs.Assembly.{record_fits}
 use Rattle.assembly.specs.Carried.{key_of}
 use Rattle.assembly.specs.View.{piece}
-use Rattle.table.specs.declared.Slot.{Slot}
-use Rattle.table.specs.Slots.{slot_bytes, key_from}
-use Rattle.table.proofs.Calling.{lands_as, place_new, place_at, read_step}
-use Rattle.table.proofs.Lowest.{key_below, key_occupied, usable_record, read_within}
+use Rattle.table.specs.Slots.{key_from}
+use Rattle.table.proofs.Calling.{lands_as, place_new, place_at}
+use Rattle.table.proofs.Lowest.{key_below, key_occupied, usable_record}
 use Rattle.table.proofs.place.Goals as goal
 
 pub offset_bounds-table-i : goal.offset_bounds-table-i
@@ -40,11 +37,7 @@ put_at-requires c =
     let e : key_from 0 k a.table ≡ Some i = sym c.key_from.ensures ∙ c.in-Some.is in
     let held = key_occupied k a.table (length a.payloads.now) (length a.maps.now) i c.requires.usable c.well_formed.0.1.0.1 e in
     let fits = usable_record a.table i (length a.payloads.now) (length a.maps.now) c.requires.usable held.used in
-    record {
-      sized = held.sized;
-      fits = subst (λ (s : Slot). record_fits slot_bytes s.rec.total s.rec.floor ≡ true) (sym (read_within a.table i (key_below k a.table i e))) fits;
-      has_room = c.requires.has_room;
-    }
+    record { sized = held.sized; fits = fits; has_room = c.requires.has_room }
 
 pub returns-in-None : goal.returns-in-None
 returns-in-None c =
@@ -63,5 +56,4 @@ returns-in-Some c =
     let p = piece a.h.off a.h.mf a.body.now in
     let e : key_from 0 (key_of a.h) a.table ≡ Some i =
     ap (λ (k : Key). key_from 0 k a.table) (sym key) ∙ sym c.key_from.ensures ∙ c.in-Some.is in
-    lands_as _ _ _ _ _ _ _ (place_at a.table a.payloads.now a.maps.now (key_of a.h) p i e)
-    (read_step a.table a.payloads.now a.maps.now i p _ _ _ (key_below (key_of a.h) a.table i e) c.put_at.ensures)
+    lands_as _ _ _ _ _ _ _ (place_at a.table a.payloads.now a.maps.now (key_of a.h) p i e) c.put_at.ensures
