@@ -2,20 +2,25 @@
 use mathlib.Core.Path.{◌≡◌, refl, sym, ap, ap₂, subst, ◌∙◌}
 use Prim.Native.Nat.{ℕ, suc, ◌+◌, ◌-◌, ◌*◌, ◌≤◌}
 use native.Mathlib.Omega.{arith}
-use mathlib.Core.Bool.{true, false}
+use mathlib.Core.Bool.{true, false, true≢false}
 use mathlib.Core.List.{List, [], ◌∷◌, ◌++◌, append-nil}
 use lib.ListN.{length, take, drop, set, length-drop}
 use lib.Seq.{slice, length-take-le, take-take, take_at, drop_at, take-suc-set, append_snoc}
 use borrow.Author.Tests.{le-ltb}
+use Rattle.std.specs.Prelude.{Result, Ok, Err, Some, None}
+use Rattle.pkt.specs.Answers.{ListAnswer, refused_whole, refused_at, gives_all, list_says}
 use Rattle.pkt.specs.Written.{written}
+use Rattle.pkt.specs.declared.refusal.ListRefusal.{ListRefusal}
+use Rattle.pkt.specs.declared.refusal.ListRefusal.TheVariants as refusal
+use Rattle.pkt.proofs.Choice.{fails}
 use Rattle.pcap.specs.Read.{number}
 use Rattle.ezpkt.proofs.Slices.{lent_slice}
-use Rattle.reading.specs.Reading.{open_at, step_says, spot_at, packet_at, step_at, more_at, past_at}
+use Rattle.reading.specs.Reading.{Next, open_at, spot_at, packet_at, step_at, more_at, past_at}
 use Rattle.reading.specs.Ends.{last_from, last_of}
-use Rattle.reading.proofs.Ending.{spot_within, stops, goes_on}
+use Rattle.reading.specs.declared.Spot.{Spot}
+use Rattle.reading.proofs.Ending.{there_found, found_there, spot_within, stops, goes_on}
 use Rattle.reporting.specs.Report.{cut_at, first_wrong}
-use Rattle.flowreport.specs.Gather.{packets_from, packets_of, Gathers}
-use Rattle.flowreport.specs.declared.gather.Gathered.{Gathered}
+use Rattle.flowreport.specs.Gather.{packets_from, packets_of, counted, Gathers}
 use Rattle.flowreport.proofs.Packets.{packets_turn, packets_end}
 
 -- ---- ends that go up from s to the last, n
@@ -103,45 +108,58 @@ at_start l o e =
       last = ap (λ (m : ℕ). last_from m 0 (open_at l) l) z;
     }
 
--- the part of l that is lent for a record's packet
-abbrev lent_at : List ℕ → ℕ → ℕ → List ℕ
-lent_at l at past = take (past - (at + 16)) (drop (at + 16) l)
+-- the record that a step found, and the place behind it
+found_is : (l : List ℕ) (at k : ℕ) (s : Spot) → gives_all (Some s) ≡ step_at l at k → (more_at l at ≡ true) × (s ≡ spot_at l at k)
+found_is l at k s e =
+    let m = found_there l at k s (sym e) in
+    let q : ◌≡◌ {A = ListAnswer Next} (gives_all (Some s)) (gives_all (Some (spot_at l at k))) = e ∙ there_found l at k m in
+    (m, cc)
 
--- it is the packet,
-lent_packet : (l : List ℕ) (at k past : ℕ) → more_at l at ≡ true → past ≡ past_at l at → lent_at l at past ≡ packet_at l (spot_at l at k)
-lent_packet l at k past h e =
-    let w = spot_within l at h in
-    let z : past - (at + 16) ≡ number 4 8 (drop at l) = omega (arith, w.1, e) in
-    ap (λ (i : ℕ). take i (drop (at + 16) l)) z
+-- Where that record's packet lies: behind the record's header, up to the record's end.
+pub record Lies (l : List ℕ) (at : ℕ) (s : Spot) : Type 0 where
+  pub start : s.start ≡ at + 16
+  pub within : s.start + s.len ≤ length l
+  pub size : length (packet_at l s) ≡ s.len
+  pub past : past_at l at ≡ s.start + s.len
 
--- and lies behind the record's header, up to the record's end.
-pub lent_length : (l : List ℕ) (at past : ℕ) → more_at l at ≡ true → past ≡ past_at l at
-    → (past ≡ at + 16 + length (lent_at l at past)) × (past ≤ length l)
-lent_length l at past h e =
-    let w = spot_within l at h in (
-      omega (arith, w.0, w.1, e, length-take-le (past - (at + 16)) (drop (at + 16) l) (omega (arith, w.0, w.1, e, length-drop (at + 16) l))),
-      omega (arith, w.0, w.1, e),
-    )
+pub lies : (l : List ℕ) (at k : ℕ) (s : Spot) → gives_all (Some s) ≡ step_at l at k → Lies l at s
+lies l at k s e =
+    let f = found_is l at k s e in
+    let w = spot_within l at f.0 in
+    subst (Lies l at) (sym f.1)
+    (record {
+      start = refl;
+      within = w.0;
+      size = length-take-le (number 4 8 (drop at l)) (drop (at + 16) l) (omega (arith, w.0, length-drop (at + 16) l));
+      past = w.1;
+    })
 
-pub at_next : (l o e : List ℕ) (at k n past n' : ℕ) (o' : List ℕ) → length l ≤ length o → length l ≤ 16 * length e → more_at l at ≡ true → past ≡ past_at l at
-    → n' ≡ n + length (lent_at l at past) → o' ≡ take n o ++ written (lent_at l at past) (drop n o) → Facts l at k n o e → Facts l past (k + 1) n' o' (set e k n')
-at_next l o e at k n past n' o' room places h there size puts f =
-    let p : List ℕ = lent_at l at past in
-    let s = lent_length l at past h there in
+-- the packet as it is lent
+pub lent_packet : (l : List ℕ) (s : Spot) → take (s.start + s.len - s.start) (drop s.start l) ≡ packet_at l s
+lent_packet l s = let z : s.start + s.len - s.start ≡ s.len = omega arith in ap (λ (i : ℕ). take i (drop s.start l)) z
+
+pub at_next : (l o e : List ℕ) (at k n n' : ℕ) (s : Spot) (o' : List ℕ) → length l ≤ length o → length l ≤ 16 * length e → gives_all (Some s) ≡ step_at l at k
+    → n' ≡ n + length (packet_at l s) → o' ≡ take n o ++ written (packet_at l s) (drop n o) → Facts l at k n o e
+    → Facts l (s.start + s.len) (k + 1) n' o' (set e k n')
+at_next l o e at k n n' s o' room places is size puts f =
+    let p : List ℕ = packet_at l s in
+    let y = lies l at k s is in
+    let found = found_is l at k s is in
+    let past : ℕ = s.start + s.len in
     let low = f.low in
     let one : k + 1 ≡ suc k = omega arith in
-    let turns : length l - k ≡ suc (length l - (k + 1)) = omega (arith, s.0, s.1, low) in
+    let turns : length l - k ≡ suc (length l - (k + 1)) = omega (arith, y.start, y.within, low) in
     let front : take (k + 1) (set e k n') ≡ take k e ++ n' ∷ [] =
-    ap (λ (i : ℕ). take i (set e k n')) one ∙ take-suc-set e k n' (omega (arith, s.0, s.1, low)) in
+    ap (λ (i : ℕ). take i (set e k n')) one ∙ take-suc-set e k n' (omega (arith, y.start, y.within, low)) in
     let left : List (List ℕ) = packets_from (length l - (k + 1)) (k + 1) past l in
     let here : packets_from (length l - k) k at l ≡ p ∷ left =
     ap (λ (m : ℕ). packets_from m k at l) turns
-    ∙ packets_turn (length l - (k + 1)) k at l h
-    ∙ ap₂ (λ (q : List ℕ) (i : ℕ). q ∷ packets_from (length l - (k + 1)) i (past_at l at) l) (sym (lent_packet l at k past h there)) (sym one)
-    ∙ ap (λ (i : ℕ). p ∷ packets_from (length l - (k + 1)) (k + 1) i l) (sym there) in
+    ∙ packets_turn (length l - (k + 1)) k at l found.0
+    ∙ ap₂ (λ (q : List ℕ) (i : ℕ). q ∷ packets_from (length l - (k + 1)) i (past_at l at) l) (ap (packet_at l) (sym found.1)) (sym one)
+    ∙ ap (λ (i : ℕ). p ∷ packets_from (length l - (k + 1)) (k + 1) i l) y.past in
     record {
-      low = omega (arith, s.0, size, low);
-      within = omega (arith, s.0, s.1, size, low);
+      low = omega (arith, y.start, y.size, size, low);
+      within = omega (arith, y.start, y.within, y.size, size, low);
       up = subst (λ (es : List ℕ). Up 0 es n') (sym front) (up_more 0 (take k e) n n' f.up (omega arith));
       cut =
           ap₂ (λ (es r : List ℕ). cut_at 0 es r ++ left) (front ∙ ap (λ (i : ℕ). take k e ++ i ∷ []) size) puts
@@ -150,25 +168,51 @@ at_next l o e at k n past n' o' room places h there size puts f =
           ∙ ap (λ (ps : List (List ℕ)). cut_at 0 (take k e) o ++ ps) (sym here)
           ∙ f.cut;
       last =
-          ap₂ (λ (i j : ℕ). last_from (length l - (k + 1)) i j l) one there
-          ∙ sym (ap (λ (m : ℕ). last_from m k at l) turns ∙ goes_on (length l - (k + 1)) k at l h)
+          ap₂ (λ (i j : ℕ). last_from (length l - (k + 1)) i j l) one (sym y.past)
+          ∙ sym (ap (λ (m : ℕ). last_from m k at l) turns ∙ goes_on (length l - (k + 1)) k at l found.0)
           ∙ f.last;
     }
 
-pub at_end : (l o e : List ℕ) (at k n : ℕ) (g : Gathered) → length l ≤ length o → length l ≤ 16 * length e → more_at l at ≡ false → Facts l at k n o e
-    → g.packets ≡ k → step_says g.last ≡ step_at l at k → Gathers l g o e
-at_end l o e at k n g room places h f count step =
-    let few : k ≤ length e = omega (arith, f.within) in
-    record {
-      within = omega arith;
-      cut =
-          ap (λ (i : ℕ). cut_at 0 (take i e) o) count
-          ∙ sym (ap (λ (ps : List (List ℕ)). cut_at 0 (take k e) o ++ ps) (packets_end (length l - k) k at l h) ∙ append-nil (cut_at 0 (take k e) o))
-          ∙ f.cut;
-      right =
-          ap (λ (i : ℕ). first_wrong 0 (length o) (take i e)) count
-          ∙ up_right 0 (take k e) n (length o) f.up (omega (arith, f.within))
-          ∙ length-take-le k e few
-          ∙ sym count;
-      last = step ∙ sym (stops (length l - k) k at l h) ∙ f.last;
-    }
+-- a step that found no record
+none_there : (l : List ℕ) (at k : ℕ) → gives_all None ≡ step_at l at k → more_at l at ≡ false
+none_there l at k e = fails _ (λ m. true≢false (cc (e ∙ there_found l at k m)))
+
+refused_there : (l : List ℕ) (at k : ℕ) (r : ListRefusal) → list_says {A = Next} (Err r) ≡ step_at l at k → more_at l at ≡ false
+refused_there l at k (refusal.Whole x) e = fails _ (λ m. true≢false (cc (e ∙ there_found l at k m)))
+refused_there l at k (refusal.At x i) e = fails _ (λ m. true≢false (cc (e ∙ there_found l at k m)))
+
+-- what is answered then
+refused_counts : (a : ListAnswer Next) (k : ℕ) (r : ListRefusal) → list_says {A = Next} (Err r) ≡ a → list_says (Err r) ≡ counted a k
+refused_counts (refused_whole n) k (refusal.Whole x) e = ap refused_whole (cc)
+refused_counts (refused_whole n) k (refusal.At x i) e = cc
+refused_counts (refused_at n j) k (refusal.Whole x) e = cc
+refused_counts (refused_at n j) k (refusal.At x i) e = ap₂ refused_at (cc) (cc)
+refused_counts (gives_all a) k (refusal.Whole x) e = cc
+refused_counts (gives_all a) k (refusal.At x i) e = cc
+
+module _ (l o e : List ℕ) (at k n : ℕ) (room : length l ≤ length o) (places : length l ≤ 16 * length e) (f : Facts l at k n o e) where
+  pub few : k ≤ length e
+  few = omega (arith, f.within)
+
+  ended : more_at l at ≡ false → (r : Result ℕ ListRefusal) → list_says r ≡ counted (last_of l) k → Gathers l r o e
+  ended h r says =
+      record {
+        packets = k;
+        within = few;
+        cut =
+            sym (ap (λ (ps : List (List ℕ)). cut_at 0 (take k e) o ++ ps) (packets_end (length l - k) k at l h) ∙ append-nil (cut_at 0 (take k e) o))
+            ∙ f.cut;
+        right =
+            up_right 0 (take k e) n (length o) f.up (omega (arith, f.within))
+            ∙ length-take-le k e few;
+        last = says;
+      }
+
+  last_is : more_at l at ≡ false → step_at l at k ≡ last_of l
+  last_is h = sym (stops (length l - k) k at l h) ∙ f.last
+
+  pub at_end : gives_all None ≡ step_at l at k → Gathers l (Ok k) o e
+  at_end is = let h = none_there l at k is in ended h (Ok k) (ap (λ (a : ListAnswer Next). counted a k) (is ∙ last_is h))
+
+  pub at_refusal : (r : ListRefusal) → list_says {A = Next} (Err r) ≡ step_at l at k → Gathers l (Err r) o e
+  at_refusal r is = let h = refused_there l at k r is in ended h (Err r) (refused_counts (last_of l) k r (is ∙ last_is h))

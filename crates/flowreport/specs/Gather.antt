@@ -1,11 +1,11 @@
 -- The packets of a capture end to end, and where each ends: what `flowreport` reports over.
-use Rattle.std.specs.Prelude.{ℕ, zero, suc, ◌*◌, ◌≤◌, ◌≡◌, cond, List, [], ◌∷◌, map, length, take}
-use Rattle.pkt.specs.Answers.{gives_all}
+use Rattle.std.specs.Prelude.{ℕ, zero, suc, ◌*◌, ◌≤◌, ◌≡◌, cond, List, [], ◌∷◌, map, length, take, Result}
+use Rattle.pkt.specs.Answers.{ListAnswer, refused_whole, refused_at, gives_all, list_says}
+use Rattle.pkt.specs.declared.refusal.ListRefusal.{ListRefusal}
 use Rattle.pcap.specs.Read.{Recorded}
-use Rattle.reading.specs.Reading.{open_at, spot_at, packet_at, step_says, more_at, past_at}
+use Rattle.reading.specs.Reading.{Next, open_at, spot_at, packet_at, more_at, past_at}
 use Rattle.reading.specs.Ends.{records_answer, last_of}
 use Rattle.reporting.specs.Report.{cut_at, first_wrong}
-use Rattle.flowreport.specs.declared.gather.Gathered.{Gathered}
 
 -- the packets of the records that steps find, from a place behind k records on, as far as there are no more than most
 unfoldable pub packets_from : ℕ → ℕ → ℕ → List ℕ → List (List ℕ)
@@ -21,12 +21,19 @@ pub record GatherAsks (l o e : List ℕ) : Type 0 where
   pub room : length l ≤ length o
   pub places : length l ≤ 16 * length e
 
+-- what is answered after the last step, for k packets
+abbrev pub counted : ListAnswer Next → ℕ → ListAnswer ℕ
+counted (gives_all a) k = gives_all k
+counted (refused_whole n) k = refused_whole n
+counted (refused_at n i) k = refused_at n i
+
 -- What was gathered: the output, cut at the ends, is the packets, and the ends are right; and the last step is the first that found no record.
-pub record Gathers (l : List ℕ) (g : Gathered) (o e : List ℕ) : Type 0 where
-  pub within : g.packets ≤ length e
-  pub cut : cut_at 0 (take g.packets e) o ≡ packets_of l
-  pub right : first_wrong 0 (length o) (take g.packets e) ≡ g.packets
-  pub last : step_says g.last ≡ last_of l
+pub record Gathers (l : List ℕ) (r : Result ℕ ListRefusal) (o e : List ℕ) : Type 0 where
+  pub packets : ℕ
+  pub within : packets ≤ length e
+  pub cut : cut_at 0 (take packets e) o ≡ packets_of l
+  pub right : first_wrong 0 (length o) (take packets e) ≡ packets
+  pub last : list_says r ≡ counted (last_of l) packets
 
 -- These packets are those of the capture's records, where it is not refused.
 abbrev pub PacketsRead : Type 0

@@ -1,20 +1,10 @@
 // The packets of a capture, one behind the other.
-ghost use Rattle.std.specs.Prelude.{◌+◌, ◌≤◌, ◌≡◌, ◌++◌, length, take, drop};
+ghost use Rattle.std.specs.Prelude.{◌+◌, ◌≤◌, ◌≡◌, ◌++◌, length, take, drop, IfOk};
 ghost use Rattle.pkt.specs.Written.{written};
 ghost use Rattle.flowreport.specs.Gather.{GatherAsks, Gathers};
 
 use pkt::copying::copy;
-use reading::Step;
-
-// The bytes of a record's header, which stands before its packet.
-const HEADER: usize = 16;
-
-// How many packets there are, and the step that found no further record.
-#[derive(Clone, Copy, Drop)]
-pub struct Gathered {
-    pub packets: usize,
-    pub last: Step,
-}
+use pkt::refusal::ListRefusal;
 
 // A packet behind the first n bytes of out. How many bytes there are then.
 fn put(packet: &[u8], n: usize, out: &mut [u8]) -> usize
@@ -26,21 +16,26 @@ fn put(packet: &[u8], n: usize, out: &mut [u8]) -> usize
     n + packet.len()
 }
 
-// The packets of a capture at the start of out, and where each ends at the start of ends.
-pub(crate) fn gather(capture: &[u8], out: &mut [u8], ends: &mut [usize]) -> Gathered
+// The packets of a capture at the start of out, and where each ends at the start of ends. How many there are, or the refusal of the first step that
+// finds no further record.
+pub(crate) fn gather(
+    capture: &[u8],
+    out: &mut [u8],
+    ends: &mut [usize],
+) -> Result<usize, ListRefusal>
     requires { GatherAsks capture.now out.old ends.old }
-    ensures { Gathers capture.now result out.new ends.new }
+    ensures gathered { Gathers capture.now result out.new ends.new }
+    ensures within { IfOk result (λ k. k ≤ length ends.new) }
 {
     let mut at = reading::opening(capture);
     let mut packets = 0;
     let mut n = 0;
-    while reading::more_at(capture, at) {
-        let past = reading::past_at(capture, at);
-        n = put(&capture[at + HEADER..past], n, &mut *out);
+    while let Some(spot) = reading::step_at(capture, at, packets)? {
+        let start = spot.start;
+        at = start + spot.len;
+        n = put(&capture[start..at], n, out);
         ends[packets] = n;
         packets += 1;
-        at = past;
     }
-    let last = reading::step_at(capture, at, packets);
-    Gathered { packets, last }
+    Ok(packets)
 }

@@ -8,15 +8,11 @@ ghost use Rattle.std.specs.Prelude.{◌≤◌, length};
 ghost use Rattle.flowreport.specs.Gather.{GatherAsks};
 
 use ezpkt::SocketAddrV4;
-use pkt::refusal;
-use reading::Step;
-use reporting::Reported;
+use pkt::refusal::{ListRefusal, Refusal};
+use reporting::Report;
 use std::env::FillError;
 use std::io::Error;
 use std::rt::Env;
-use words::Address;
-
-const STDERR_FILENO: i32 = 2;
 
 const STDIN_FILENO: i32 = 0;
 
@@ -32,112 +28,91 @@ fn say_failed(rt: &impl Eprint, what: &str, e: Error) {
     let _ = eprintln!(rt; "flowreport: {what}: {e}");
 }
 
-fn say(words: &[u8]) {
-    io::write_all(STDERR_FILENO, words);
-}
-
-fn say_number(words: &[u8], n: usize) {
-    say(words);
-    io::print_decimal(STDERR_FILENO, n as u64);
-}
-
-fn say_wanted() {
-    say(
-        b"flowreport wants two words, CLIENT:PORT SERVER:PORT, as in: flowreport 10.0.0.1:40000 10.0.0.2:80 < flows.pcap\nAn address is four numbers of 0 to 255, a port 0 to 65535, in decimal and with no leading 0.\n",
+fn say_wanted(rt: &impl Eprint) {
+    let _ = rt.eprintln(
+        "flowreport wants two words, CLIENT:PORT SERVER:PORT, as in: flowreport 10.0.0.1:40000 10.0.0.2:80 < flows.pcap\nAn address is four numbers of 0 to 255, a port 0 to 65535, in decimal and with no leading 0.",
     );
 }
 
-// Why there is no report.
-fn say_refused(number: u8) {
-    say_number(b"flowreport: refused by ", number as usize);
-    if number == refusal::NOT_CAPTURE {
-        say(
-            b": the input does not begin with the header of a classic pcap capture, little-endian, version 2.4, with microseconds, snap length 65,535 and link type 101\n",
-        );
+// Why a refusal is given for the whole of a capture.
+fn reason(refusal: Refusal) -> &'static str {
+    if refusal == Refusal::NotCapture {
+        "the input does not begin with the header of a classic pcap capture, little-endian, version 2.4, with microseconds, snap length 65,535 and link type 101"
     } else {
-        say(b": more than 1,000,000 packets\n");
+        "more than 1,000,000 packets"
     }
 }
 
-// .. where that lies in a record, or in the end of a packet.
-fn say_refused_at(number: u8, record: usize) {
-    say_number(b"flowreport: refused by ", number as usize);
-    say_number(b": record ", record);
-    say(b" is cut short, or has more than 65,535 bytes\n");
-}
-
-// The report of packets with these ends, or why there is none.
-fn report(
-    rt: &(impl Print + Eprint),
-    packets: &[u8],
-    ends: &[usize],
-    cl: SocketAddrV4,
-    sv: SocketAddrV4,
-) {
-    match reporting::flow_report(packets, ends, cl, sv) {
-        Reported::Is(r) => {
-            if let Err(e) = table::show(rt, r) {
-                say_failed(rt, "standard output", e);
-            }
+// Why there is no report.
+fn say_refused(rt: &impl Eprint, refused: ListRefusal) {
+    let _ = match refused {
+        ListRefusal::Whole(refusal) => {
+            eprintln!(rt;
+                "flowreport: refused by {}: {}",
+                refusal.number(),
+                reason(refusal)
+            )
         }
-        Reported::Refused(number) => say_refused(number),
-        Reported::RefusedAt(number, record) => say_refused_at(number, record),
-    }
+        ListRefusal::At(refusal, record) => {
+            eprintln!(rt;
+                "flowreport: refused by {}: record {record} is cut short, or has more than 65,535 bytes",
+                refusal.number()
+            )
+        }
+    };
 }
 
-// The report of a capture's packets, which are put end to end into out, with their ends; or why there is none.
+// The report of a capture's packets, which are put end to end into out, with their ends.
 fn report_in(
-    rt: &(impl Print + Eprint),
     capture: &[u8],
     out: &mut [u8],
     ends: &mut [usize],
     cl: SocketAddrV4,
     sv: SocketAddrV4,
-)
+) -> Result<Report, ListRefusal>
     requires { GatherAsks capture.now out.old ends.old }
 {
-    let found = gather::gather(capture, &mut *out, &mut *ends);
-    let packets = found.packets;
-    let last = found.last;
-    match last {
-        Step::End => report(rt, out, &ends[0..packets], cl, sv),
-        Step::Record(_) => report(rt, out, &ends[0..packets], cl, sv),
-        Step::Refused(number) => say_refused(number),
-        Step::RefusedAt(number, record) => say_refused_at(number, record),
-    }
+    let packets = gather::gather(capture, out, ends)?;
+    reporting::flow_report(out, &ends[0..packets], cl, sv)
 }
 
 // The arrays as slices.
 fn report_within(
-    rt: &(impl Print + Eprint),
     capture: &[u8],
     out: &mut [u8; MOST],
     ends: &mut [usize; MOST_RECORDS],
     cl: SocketAddrV4,
     sv: SocketAddrV4,
-)
+) -> Result<Report, ListRefusal>
     requires { length capture.now ≤ 2097152 }
 {
-    report_in(rt, capture, out, ends, cl, sv);
+    report_in(capture, out, ends, cl, sv)
 }
 
-// The report of a capture, or why there is none.
-fn run(rt: &(impl Print + Eprint), capture: &[u8], cl: SocketAddrV4, sv: SocketAddrV4)
+// The report of a capture.
+fn report(capture: &[u8], cl: SocketAddrV4, sv: SocketAddrV4) -> Result<Report, ListRefusal>
     requires { length capture.now ≤ 2097152 }
 {
     let mut out = [0u8; MOST];
     let mut ends = [0usize; MOST_RECORDS];
-    report_within(rt, capture, &mut out, &mut ends, cl, sv);
+    report_within(capture, &mut out, &mut ends, cl, sv)
 }
 
-// Reads a capture; a byte more than the longest has shows that there is more.
+// Reads a capture; a byte more than the longest has shows that there is more. Then the report, or why there is none.
 fn read_into(rt: &(impl Print + Eprint), input: &mut [u8], cl: SocketAddrV4, sv: SocketAddrV4) {
-    let n = io::read_full(STDIN_FILENO, &mut *input);
+    let n = io::read_full(STDIN_FILENO, input);
     if MOST < n {
-        say(b"flowreport: more than 2,097,152 bytes of input\n");
+        let _ = rt.eprintln("flowreport: more than 2,097,152 bytes of input");
         return;
     }
-    run(rt, &input[0..n], cl, sv);
+    match report(&input[0..n], cl, sv) {
+        Ok(r) => {
+            if let Err(e) = table::show(rt, r) {
+                say_failed(rt, "standard output", e);
+            }
+        }
+        Err(refused) => say_refused(rt, refused),
+    }
 }
 
 // The array as a slice.
@@ -157,15 +132,10 @@ fn read_capture(rt: &(impl Print + Eprint), cl: SocketAddrV4, sv: SocketAddrV4) 
 
 // Both addresses, and then the capture.
 fn with_words(rt: &(impl Print + Eprint), client: &[u8], server: &[u8]) {
-    let Address::Is(cl) = words::read_address(client) else {
-        say_wanted();
-        return;
-    };
-    let Address::Is(sv) = words::read_address(server) else {
-        say_wanted();
-        return;
-    };
-    read_capture(rt, cl, sv);
+    match (words::read_address(client), words::read_address(server)) {
+        (Some(cl), Some(sv)) => read_capture(rt, cl, sv),
+        _ => say_wanted(rt),
+    }
 }
 
 // The word of this number at the start of buf, and how long it is: 0 where it is missing or longer than buf.
@@ -191,7 +161,7 @@ fn main(rt: HostRuntime) {
     let a = word(&rt, 1, &mut client);
     let b = word(&rt, 2, &mut server);
     if word_count(&rt) != 3 {
-        say_wanted();
+        say_wanted(&rt);
         return;
     }
     with_words(&rt, &client[..a], &server[..b]);

@@ -2,74 +2,78 @@
 use crate::places::{datagram, put_bytes, put_record};
 use crate::shown::show_into;
 use ezpkt::part::front;
+use std::io;
 
 // Two records of 46 bytes, each with two changes.
 fn two() -> [u8; 116] {
     let packet = datagram();
     let mut c = [0u8; 116];
-    pcap::write_header(&mut c);
+    let _ = pcap::write_header(&mut c);
     put_record(7, 0, &packet, 24, &mut c);
     put_record(8, 999999, &packet, 70, &mut c);
     c
 }
 
 // The first bytes of two records, however many.
-fn fronts(two: &[u8]) {
+fn fronts(rt: &impl Print, two: &[u8]) -> io::Result<()> {
     for n in 0..two.len() {
-        show_into(b"two records, cut", front(two, n), 128, 4);
+        show_into(rt, "two records, cut", front(two, n), 128, 4)?;
     }
-    show_into(b"two records", two, 128, 4);
+    show_into(rt, "two records", two, 128, 4)
 }
 
 // A capture's header that is not document 01's.
-fn other_header() {
+fn other_header(rt: &impl Print) -> io::Result<()> {
     let mut h = pcap::header();
     put_bytes(b"\x01", 23, &mut h);
-    show_into(b"a header with another last byte", &h, 128, 4);
+    show_into(rt, "a header with another last byte", &h, 128, 4)
 }
 
 // One record, 70 bytes with two changes, into just enough room and less.
-fn rooms(one: &[u8]) {
-    show_into(b"just enough room", one, 70, 2);
-    show_into(b"a byte less in the second buffer", one, 69, 2);
-    show_into(b"a row less in the list", one, 70, 1);
-    show_into(b"no room", one, 0, 0);
-    show_into(b"no room, and a record cut short", front(one, 69), 0, 0);
-    show_into(b"no room, and a header cut short", front(one, 23), 0, 0);
+fn rooms(rt: &impl Print, one: &[u8]) -> io::Result<()> {
+    show_into(rt, "just enough room", one, 70, 2)?;
+    show_into(rt, "a byte less in the second buffer", one, 69, 2)?;
+    show_into(rt, "a row less in the list", one, 70, 1)?;
+    show_into(rt, "no room", one, 0, 0)?;
+    show_into(rt, "no room, and a record cut short", front(one, 69), 0, 0)?;
+    show_into(rt, "no room, and a header cut short", front(one, 23), 0, 0)
 }
 
 // The first n bytes of a capture of one record, zeros but for these bytes of it: its two lengths, and its packet.
-fn show_long(words: &[u8], record: &[u8], n: usize) {
+fn show_long(rt: &impl Print, what: &str, record: &[u8], n: usize) -> io::Result<()> {
     let mut c = [0u8; 65576];
-    pcap::write_header(&mut c);
+    let _ = pcap::write_header(&mut c);
     put_bytes(record, 32, &mut c);
-    show_into(words, front(&c, n), 65576, 2);
+    show_into(rt, what, front(&c, n), 65576, 2)
 }
 
 // The longest record, whose packet is an IPv4 header and an ICMP message that is all zero, and one that is longer.
-fn lengths() {
+fn lengths(rt: &impl Print) -> io::Result<()> {
     show_long(
-        b"a record of 65,536 bytes",
+        rt,
+        "a record of 65,536 bytes",
         b"\x00\x00\x01\x00\x00\x00\x01\x00",
         65576,
-    );
+    )?;
     show_long(
-        b"one of 65,535 bytes and one byte",
+        rt,
+        "one of 65,535 bytes and one byte",
         b"\xff\xff\x00\x00\xff\xff\x00\x00",
         65576,
-    );
+    )?;
     show_long(
-        b"a record of 65,535 bytes",
+        rt,
+        "a record of 65,535 bytes",
         b"\xff\xff\x00\x00\xff\xff\x00\x00\x45\x00\xff\xff\x00\x00\x00\x00\x40\x01",
         65575,
-    );
+    )
 }
 
 // All of them.
-pub(crate) fn each() {
+pub(crate) fn each(rt: &impl Print) -> io::Result<()> {
     let two = two();
-    fronts(&two);
-    rooms(front(&two, 70));
-    other_header();
-    lengths();
+    fronts(rt, &two)?;
+    rooms(rt, front(&two, 70))?;
+    other_header(rt)?;
+    lengths(rt)
 }

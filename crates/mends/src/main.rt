@@ -15,18 +15,18 @@ use shown::{show, show_into};
 const STDIN_FILENO: i32 = 0;
 
 // The capture on standard input, and what it is mended to once more.
-fn stored() {
+fn stored(rt: &impl Print) -> std::io::Result<()> {
     let mut input = [0u8; 1024];
     let n = io::read_full(STDIN_FILENO, &mut input);
     let mut out = [shown::BYTE; 1024];
     let mut rows = [[shown::NUMBER; 4]; 16];
-    show(b"the stored capture", &input[..n], &mut out, &mut rows);
-    show_into(b"the same once more", front(&out, n), n, 0);
+    show(rt, "the stored capture", &input[..n], &mut out, &mut rows)?;
+    show_into(rt, "the same once more", front(&out, n), n, 0)
 }
 
-fn main() {
-    stored();
-    bounds::each();
-    traps::each();
-    options::each();
+fn main(rt: HostRuntime) -> std::io::Result<()> {
+    stored(&rt)?;
+    bounds::each(&rt)?;
+    traps::each(&rt)?;
+    options::each(&rt)
 }

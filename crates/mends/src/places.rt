@@ -8,15 +8,14 @@ pub(crate) fn datagram() -> [u8; 30] {
 
 // A record at a place of a capture, where there is room for it.
 pub(crate) fn put_record(sec: u32, usec: u32, packet: &[u8], at: usize, capture: &mut [u8]) {
-    if at <= capture.len() {
-        pcap::write_record(sec, usec, packet, &mut capture[at..]);
+    if let Some(rest) = capture.get_mut(at..) {
+        let _ = pcap::write_record(sec, usec, packet, rest);
     }
 }
 
 // Bytes at a place, where there is room for them.
 pub(crate) fn put_bytes(bytes: &[u8], at: usize, out: &mut [u8]) {
-    if at <= out.len() {
-        let rest = &mut out[at..];
+    if let Some(rest) = out.get_mut(at..) {
         if bytes.len() <= rest.len() {
             copy(bytes, rest);
         }

@@ -1,73 +1,31 @@
-// What is written: words, numbers, bytes and changes.
-use inspect::check::Checked;
-
-const STDOUT_FILENO: i32 = 1;
-
-// Words alone.
-pub(crate) fn say(words: &[u8]) {
-    io::write_all(STDOUT_FILENO, words);
-}
-
-// Words, and a number in decimal.
-pub(crate) fn say_number(words: &[u8], n: usize) {
-    say(words);
-    io::print_decimal(STDOUT_FILENO, n as u64);
-}
-
-// A byte, in two hexadecimal digits.
-fn say_byte(b: u8) {
-    say(b" ");
-    io::print_hex(STDOUT_FILENO, b as u64, 2);
-}
-
-// Each of these bytes.
-pub(crate) fn say_bytes(s: &[u8]) {
-    for i in 0..s.len() {
-        say_byte(s[i]);
-    }
-}
-
-// Words, and a checksum in four hexadecimal digits.
-fn say_sum(words: &[u8], n: usize) {
-    say(words);
-    io::print_hex(STDOUT_FILENO, n as u64, 4);
-}
+// What is written of a change and of a check.
+use inspect::check::Verdict;
+use pkt::refusal::Refusal;
+use std::io;
 
 // Which checksum.
-fn say_field(which: usize) {
+fn field_name(which: usize) -> &'static str {
     if which == mending::IPV4 {
-        say(b", IPv4 checksum");
+        "IPv4"
     } else {
-        say(b", transport checksum");
+        "transport"
     }
 }
 
 // A line for one change: the record's number, which checksum, what it was and what it is.
-pub(crate) fn say_change(change: [usize; 4]) {
-    say_number(b"  record ", change[0]);
-    say_field(change[1]);
-    say_sum(b": was 0x", change[2]);
-    say_sum(b", is now 0x", change[3]);
-    say(b"\n");
+pub(crate) fn show_change(rt: &impl Print, change: [usize; 4]) -> io::Result<()> {
+    let [record, which, old, new] = change;
+    println!(rt;
+        "  record {record}, {} checksum: was 0x{old:04x}, is now 0x{new:04x}",
+        field_name(which)
+    )
 }
 
 // What the check answers.
-pub(crate) fn say_checked(answer: Checked) {
+pub(crate) fn show_checked(rt: &impl Print, answer: Result<Verdict, Refusal>) -> io::Result<()> {
     match answer {
-        Checked::Good => say(b"good:"),
-        Checked::NoChecksum => say(b"good without checksum:"),
-        Checked::Refused(n) => {
-            say_number(b"refused ", n as usize);
-            say(b":");
-        }
-    }
-}
-
-// The end of an answer's line.
-pub(crate) fn say_untouched(untouched: bool) {
-    if untouched {
-        say(b", the rest untouched\n");
-    } else {
-        say(b", the rest NOT untouched\n");
+        Ok(Verdict::Good) => print!(rt; "good:"),
+        Ok(Verdict::NoChecksum) => print!(rt; "good without checksum:"),
+        Err(refusal) => print!(rt; "refused {}:", refusal.number()),
     }
 }

@@ -5,8 +5,8 @@ use lib.ListN.{length}
 use Rattle.flowreport.proofs.Gathering.{Facts}
 use Rattle.flowreport.proofs.gather.gather.Given as goal
 
-abbrev pub invariant-loop-past : goal.invariant-loop-past
-invariant-loop-past l = (length l.out ≡ length l.initial.out) × (length l.ends ≡ length l.initial.ends) × Facts l.capture l.at l.packets l.n l.out l.ends
+abbrev pub invariant-loop-spot : goal.invariant-loop-spot
+invariant-loop-spot l = (length l.out ≡ length l.initial.out) × (length l.ends ≡ length l.initial.ends) × Facts l.capture l.at l.packets l.n l.out l.ends
 
-abbrev pub decreases-loop-past : goal.decreases-loop-past
-decreases-loop-past l = length l.capture - l.at
+abbrev pub decreases-loop-spot : goal.decreases-loop-spot
+decreases-loop-spot l = length l.capture - l.at

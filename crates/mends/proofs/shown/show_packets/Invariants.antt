@@ -1,9 +1,9 @@
 -- Each turn leaves fewer bytes.
 use Rattle.std.proofs.Common.{length}
-use Rattle.mends.proofs.shown.say_packets.Given as goal
+use Rattle.mends.proofs.shown.show_packets.Given as goal
 
 abbrev pub invariant-loop-rest : goal.invariant-loop-rest
-invariant-loop-rest l = Unit {0}
+invariant-loop-rest g l = Unit {0}
 
 abbrev pub decreases-loop-rest : goal.decreases-loop-rest
-decreases-loop-rest l = length l.rest
+decreases-loop-rest g l = length l.rest
