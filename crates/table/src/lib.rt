@@ -356,7 +356,7 @@ pub fn discard(table: [Slot; 8], key: Key, payloads: &mut [u8], maps: &mut [u8])
         return refuse(table, Refusal::BadAssembly);
     }
     match key_from(table, 0, key) {
-        None => refuse(table, Refusal::NoDatagram),
+        None => refuse(table, Refusal::NoDatagram), // there is none to discard
         Some(i) => {
             let table = empty_at(table, i, payloads, maps);
             let answer = Ok(());
