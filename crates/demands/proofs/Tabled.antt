@@ -21,8 +21,7 @@ use Rattle.assembly.specs.Packets.{take_all, Accepted}
 use Rattle.assembly.proofs.Delivers as handed
 use Rattle.assembly.proofs.Parts.{mem_length}
 use Rattle.table.specs.declared.Slot.{Slot}
-use Rattle.table.specs.declared.Placed.{Placed}
-use Rattle.table.specs.declared.TakenOut.{TakenOut}
+use Rattle.table.specs.declared.After.{After}
 use Rattle.table.specs.Slots.{slot_bytes, slot_map}
 use Rattle.table.specs.Table.{table_take, Tables, TakesOut}
 use Rattle.table.specs.Mixed.{Keyed, keyed_in, pieces_of, AtMostEight, HandedTo, assembly_of, led_to, Carried}
@@ -72,7 +71,7 @@ module _ (t : Template) (p : List ℕ) (one : OneHeader t) (few : length p ≤ s
   led_to_lem u e = led_is (template_key t) (pieces_of (template_key t) ls) u (sym (h.led (template_key t)) ∙ e) ∙ sym alone_is
 
   -- ---- handing in one more
-  one_more : (l : List ℕ) (off len : ℕ) → CutBy t p l off len → AtMostEight (ls ++ (l ∷ [])) → (a : Placed) (d' m' : List ℕ)
+  one_more : (l : List ℕ) (off len : ℕ) → CutBy t p l off len → AtMostEight (ls ++ (l ∷ [])) → (a : After Outcome) (d' m' : List ℕ)
       → Tables (table_take s d m l) s d m a d' m' → (x : Outcome) × (says a.answer ≡ gives x)
   one_more l off len c more a d' m' call = go (went s d m l h.sound a d' m' call)
     where
@@ -85,7 +84,7 @@ module _ (t : Template) (p : List ℕ) (one : OneHeader t) (few : length p ≤ s
       go (turned x e o n f y z w) = absurd (ninth ls s d m l h x more e n f)
 
   -- ---- taking out
-  module _ (o : List ℕ) (a : TakenOut) (d' m' o' : List ℕ) (call : TakesOut s d m (template_key t) o a d' m' o') where
+  module _ (o : List ℕ) (a : After ℕ) (d' m' o' : List ℕ) (call : TakesOut s d m (template_key t) o a d' m' o') where
     -- by the assembly that the key has
     told : Outgoing s d m (template_key t) o a d' m' o'
     told = outgoing s d m (template_key t) h.sound o a d' m' o' call

@@ -35,9 +35,8 @@ use Rattle.assembly.specs.Carried.{fit_answer}
 use Rattle.assembly.specs.Calls.{Opens, Takes, Puts, stands_answer}
 use Rattle.table.specs.Table.{table_take, Tables, TakesOut, Discards}
 use Rattle.table.specs.declared.Slot.{Slot}
-use Rattle.table.specs.declared.Placed.{Placed}
-use Rattle.table.specs.declared.TakenOut.{TakenOut}
-use Rattle.table.specs.declared.Discarded.{Discarded}
+use Rattle.table.specs.declared.After.{After}
+use Rattle.assembly.specs.declared.Outcome.{Outcome}
 use Rattle.packet.specs.Answers as packet
 use Rattle.packet.specs.declared.Packet.{Packet}
 use Rattle.packet.specs.declared.PktSlice.{PktSlice}
@@ -106,12 +105,12 @@ pub record Numbered : Type 0 where
   -- and 11 by `progress` and `any::progress`
   pub progressing : (ok : Bool) (s : State) (r : Result Progress Refusal) → progress_says r ≡ stands_answer ok s → Among (11 ∷ []) (progress_says r)
   -- Document 02, T-03: a table's `take` gives 11, 4, 5, 6, 7, 18, 9, 20 and 19: "8 does not arise here", nor does 10;
-  pub tabling : (t : List Slot) (d m l : List ℕ) (r : Placed) (d' m' : List ℕ) → Tables (table_take t d m l) t d m r d' m'
+  pub tabling : (t : List Slot) (d m l : List ℕ) (r : After Outcome) (d' m' : List ℕ) → Tables (table_take t d m l) t d m r d' m'
       → Among (11 ∷ 4 ∷ 5 ∷ 6 ∷ 7 ∷ 18 ∷ 9 ∷ 20 ∷ 19 ∷ []) (says r.answer)
   -- "for taking, 11, 27 .., 3; for discarding, 11, 27": `take_out`, `discard`
-  pub taking_out : (t : List Slot) (d m : List ℕ) (k : Key) (o : List ℕ) (r : TakenOut) (d' m' o' : List ℕ) → TakesOut t d m k o r d' m' o'
+  pub taking_out : (t : List Slot) (d m : List ℕ) (k : Key) (o : List ℕ) (r : After ℕ) (d' m' o' : List ℕ) → TakesOut t d m k o r d' m' o'
       → Among (11 ∷ 27 ∷ 3 ∷ []) (says r.answer)
-  pub discarding : (t : List Slot) (d m : List ℕ) (k : Key) (r : Discarded) (d' m' : List ℕ) → Discards t d m k r d' m'
+  pub discarding : (t : List Slot) (d m : List ℕ) (k : Key) (r : After (Unit {0})) (d' m' : List ℕ) → Discards t d m k r d' m'
       → Among (11 ∷ 27 ∷ []) (says r.answer)
   -- "Packet check 4, 5, 6, 4, 7, 13, 12, 14, 15", with 18 after 7, and its parts: `frame`,
   pub framing : (l : List ℕ) (r : Result IpRead Refusal) → says r ≡ frame_answer l → Among (4 ∷ 5 ∷ 6 ∷ []) (says r)

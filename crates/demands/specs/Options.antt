@@ -21,7 +21,8 @@ use Rattle.assembly.specs.Carried.{piece_answer}
 use Rattle.assembly.specs.Calls.{Takes}
 use Rattle.assembly.specs.Packets.{take_all}
 use Rattle.table.specs.declared.Slot.{Slot}
-use Rattle.table.specs.declared.Placed.{Placed}
+use Rattle.table.specs.declared.After.{After}
+use Rattle.assembly.specs.declared.Outcome.{Outcome}
 use Rattle.table.specs.Table.{table_take, Tables}
 use Rattle.reporting.specs.Report.{cut_at, Reports}
 use Rattle.reporting.specs.declared.Report.{Report}
@@ -73,7 +74,7 @@ pub record OptionsPassed : Type 0 where
   pub carried : (o : Optioned) (r r' : List ℕ) (C : ℕ) (k : Key) → piece_answer C k (full o r) ≡ piece_answer C k (bare o.parts r')
   -- what a call of an assembly or of a table may do with the one, it may do with the other, and that is one thing.
   pub taken : (o : Optioned) (r r' : List ℕ) (C M : ℕ) (s : State) (a : Result Taken Refusal) (d m : List ℕ) → Takes C M s (full o r) a d m ↔ Takes C M s (bare o.parts r') a d m
-  pub tabled : (o : Optioned) (r r' : List ℕ) (t : List Slot) (d m : List ℕ) (a : Placed) (d' m' : List ℕ)
+  pub tabled : (o : Optioned) (r r' : List ℕ) (t : List Slot) (d m : List ℕ) (a : After Outcome) (d' m' : List ℕ)
       → Tables (table_take t d m (full o r)) t d m a d' m' ↔ Tables (table_take t d m (bare o.parts r')) t d m a d' m'
   -- So packets "with options and without mixed" end in the state of those without,
   pub assembled : (C M : ℕ) (s : State) (ls ms : List (List ℕ)) → Mixed ls ms → take_all C M s ms ≡ take_all C M s ls

@@ -19,9 +19,8 @@ use Rattle.assembly.specs.View.{view}
 use Rattle.assembly.specs.Calls.{Opens, Takes, Puts}
 use Rattle.table.specs.Table.{table_take, Tables, TakesOut, Discards}
 use Rattle.table.specs.declared.Slot.{Slot}
-use Rattle.table.specs.declared.Placed.{Placed}
-use Rattle.table.specs.declared.TakenOut.{TakenOut}
-use Rattle.table.specs.declared.Discarded.{Discarded}
+use Rattle.table.specs.declared.After.{After}
+use Rattle.assembly.specs.declared.Outcome.{Outcome}
 use Rattle.packet.specs.Answers.{MadeNew, Appended, Prepended, CopiedOut}
 use Rattle.packet.specs.declared.Packet.{Packet}
 use Rattle.planner.specs.Answers.{Plans}
@@ -54,13 +53,13 @@ pub record RefusedKeep : Type 0 where
   -- `any::put`: both buffers
   pub putting : (r : Rec) (h : IpRead) (d m b d' m' : List ℕ) (e : Refusal) → Puts (view r d m) h b (Err e) d' m' → (d' ≡ d) × (m' ≡ m)
   -- a table's `take`: the table and both buffers,
-  pub tabling : (t : List Slot) (d m l : List ℕ) (r : Placed) (d' m' : List ℕ) (n : ℕ) → Tables (table_take t d m l) t d m r d' m'
+  pub tabling : (t : List Slot) (d m l : List ℕ) (r : After Outcome) (d' m' : List ℕ) (n : ℕ) → Tables (table_take t d m l) t d m r d' m'
       → says r.answer ≡ refused n → (r.table ≡ t) × (d' ≡ d) × (m' ≡ m)
   -- `take_out`: the output too,
-  pub taking_out : (t : List Slot) (d m : List ℕ) (k : Key) (o : List ℕ) (r : TakenOut) (d' m' o' : List ℕ) (n : ℕ) → TakesOut t d m k o r d' m' o'
+  pub taking_out : (t : List Slot) (d m : List ℕ) (k : Key) (o : List ℕ) (r : After ℕ) (d' m' o' : List ℕ) (n : ℕ) → TakesOut t d m k o r d' m' o'
       → says r.answer ≡ refused n → (r.table ≡ t) × (d' ≡ d) × (m' ≡ m) × (o' ≡ o)
   -- and `discard`
-  pub discarding : (t : List Slot) (d m : List ℕ) (k : Key) (r : Discarded) (d' m' : List ℕ) (i : ℕ) → Discards t d m k r d' m'
+  pub discarding : (t : List Slot) (d m : List ℕ) (k : Key) (r : After (Unit {0})) (d' m' : List ℕ) (i : ℕ) → Discards t d m k r d' m'
       → says r.answer ≡ refused i → (r.table ≡ t) × (d' ≡ d) × (m' ≡ m)
   -- `Packet::new`: the buffer
   pub making : (h : ℕ) (b b' : List ℕ) (e : Refusal) → MadeNew h b (Err e) b' → b' ≡ b

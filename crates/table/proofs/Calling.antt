@@ -22,9 +22,8 @@ use Rattle.assembly.specs.Carried.{key_of, broken, fit_answer}
 use Rattle.assembly.specs.View.{view, record_of, piece}
 use Rattle.table.specs.declared.Slot.{Slot}
 use Rattle.table.specs.declared.Landing.{Landing}
-use Rattle.table.specs.declared.Placed.{Placed}
-use Rattle.table.specs.declared.Discarded.{Discarded}
-use Rattle.table.specs.declared.TakenOut.{TakenOut}
+use Rattle.table.specs.declared.After.{After}
+use Rattle.assembly.specs.declared.Outcome.{Outcome}
 use Rattle.table.specs.Slots.{slot_bytes, slot_map, part_of, with_part, free_slot, state_at, key_from, free_from, table_fits, Sized}
 use Rattle.table.specs.Steps.{landing_of, Lands, FitsSlot, OutOf}
 use Rattle.table.specs.Table.{Placing, placing, opened_at, placed_at, place_for, stepped_by, piece_for, table_take, Tables, held_for, discard_answer, slots_without, part_without, Discards, Outing, out_of, out_answer, slot_in, datagram_in, TakesOut}
@@ -32,11 +31,11 @@ use Rattle.table.proofs.Parts.{part_back, part_again}
 use Rattle.table.proofs.Stepping.{any_number}
 
 -- equal answers leave the same
-pub tables_as : (a b : Answer Placing) (t : List Slot) (d m : List ℕ) (r : Placed) (d' m' : List ℕ) → a ≡ b → Tables b t d m r d' m' → Tables a t d m r d' m'
+pub tables_as : (a b : Answer Placing) (t : List Slot) (d m : List ℕ) (r : After Outcome) (d' m' : List ℕ) → a ≡ b → Tables b t d m r d' m' → Tables a t d m r d' m'
 tables_as a b t d m r d' m' e x = subst (λ (y : Answer Placing). Tables y t d m r d' m') (sym e) x
 
 -- a refusal leaves all as it was
-pub refused_tables : (n : ℕ) (t : List Slot) (d m : List ℕ) (r : Placed) → (r.table ≡ t) × (says r.answer ≡ refused n) → Tables (refused n) t d m r d m
+pub refused_tables : (n : ℕ) (t : List Slot) (d m : List ℕ) (r : After Outcome) → (r.table ≡ t) × (says r.answer ≡ refused n) → Tables (refused n) t d m r d m
 refused_tables n t d m r e = record { answer = e.1; slots_are = e.0; payloads_are = refl; maps_are = refl }
 
 -- the same before anything is stored
@@ -147,7 +146,7 @@ module _ (t : List Slot) (d m : List ℕ) (k : Key) where
   unfolding discard_answer
   discard_found f u e = pick_yes _ _ u ∙ ap held_for e
 
-  pub discard_refused : (n : ℕ) (r : Discarded) → here ≡ refused n → (r.table ≡ t) × (says r.answer ≡ refused n) → Discards t d m k r d m
+  pub discard_refused : (n : ℕ) (r : After (Unit {0})) → here ≡ refused n → (r.table ≡ t) × (says r.answer ≡ refused n) → Discards t d m k r d m
   discard_refused n r a e =
       record {
         answer = e.1 ∙ sym (ap (mapped (λ i. tt {0})) a);
@@ -184,7 +183,7 @@ module _ (t : List Slot) (d m : List ℕ) (k : Key) (o : List ℕ) where
   unfolding out_answer
   out_at i u e = pick_yes _ _ u ∙ ap (λ (f : Option ℕ). and_then (held_for f) (λ i. out_of (state_at t d m i) i (length o))) e
 
-  pub out_refused : (n : ℕ) (r : TakenOut) → out ≡ refused n → (r.table ≡ t) × (says r.answer ≡ refused n) → TakesOut t d m k o r d m o
+  pub out_refused : (n : ℕ) (r : After ℕ) → out ≡ refused n → (r.table ≡ t) × (says r.answer ≡ refused n) → TakesOut t d m k o r d m o
   out_refused n r a e =
       record {
         answer = e.1 ∙ sym (ap (mapped (λ x. length x.datagram)) a);
@@ -194,7 +193,7 @@ module _ (t : List Slot) (d m : List ℕ) (k : Key) (o : List ℕ) where
         output_is = sym (ap (λ (x : Answer Outing). datagram_in x o) a);
       }
 
-  pub out_done : (i : ℕ) (r : TakenOut) (d' m' o' : List ℕ) → out ≡ out_of (state_at t d m i) i (length o) → OutOf t i d m o r d' m' o' → TakesOut t d m k o r d' m' o'
+  pub out_done : (i : ℕ) (r : After ℕ) (d' m' o' : List ℕ) → out ≡ out_of (state_at t d m i) i (length o) → OutOf t i d m o r d' m' o' → TakesOut t d m k o r d' m' o'
   out_done i r d' m' o' a x =
       record {
         answer = x.answer ∙ sym (ap (mapped (λ y. length y.datagram)) a);

@@ -17,9 +17,7 @@ use Rattle.assembly.specs.Carried.{same_key}
 use Rattle.assembly.proofs.Steps.{view_of}
 use Rattle.assembly.proofs.Keeping.{Kept, cleared_kept, step_kept}
 use Rattle.table.specs.declared.Slot.{Slot}
-use Rattle.table.specs.declared.Placed.{Placed}
-use Rattle.table.specs.declared.Discarded.{Discarded}
-use Rattle.table.specs.declared.TakenOut.{TakenOut}
+use Rattle.table.specs.declared.After.{After}
 use Rattle.table.specs.Slots.{slots, slot_bytes, slot_map, with_part, free_slot, slot_of, state_at, slot_fits, key_from, free_from}
 use Rattle.table.specs.Table.{Placing, opened_at, placed_at, stepped_by, table_take, slots_after, payloads_after, maps_after, Tables}
 use Rattle.table.specs.Table.{held_for, slots_without, part_without, Discards, Outing, outing, out_of, out_answer, slot_in, datagram_in, TakesOut}
@@ -97,8 +95,8 @@ pub data Went (t : List Slot) (d m l : List ℕ) (o : Answer Outcome) (t' : List
 
 module _ (t : List Slot) (d m l : List ℕ) (h : Sound t d m) where
   -- it goes so with what an answer leaves
-  abbrev After : Answer Placing → Type 0
-  After a = Went t d m l (mapped (λ x. outcome x.state) a) (slots_after a t) (payloads_after a d) (maps_after a m)
+  abbrev GoesTo : Answer Placing → Type 0
+  GoesTo a = Went t d m l (mapped (λ x. outcome x.state) a) (slots_after a t) (payloads_after a d) (maps_after a m)
 
   answered : table_take t d m l ≡ and_then (keyed_in l) (placed_by t d m)
   answered = take_keyed t d m l (sound_usable t d m h)
@@ -116,7 +114,7 @@ module _ (t : List Slot) (d m l : List ℕ) (h : Sound t d m) where
           fits = sym (pick_yes _ true a.used) ∙ h.fits i;
         }
 
-    into : (i : ℕ) → key_from 0 x.key t ≡ Some i → After (mapped (stepped_by x.piece) (placed_at t d m x.key (Some i)))
+    into : (i : ℕ) → key_from 0 x.key t ≡ Some i → GoesTo (mapped (stepped_by x.piece) (placed_at t d m x.key (Some i)))
     unfolding Distinct
     into i q =
         let a = key_found x.key t i q in
@@ -130,7 +128,7 @@ module _ (t : List Slot) (d m l : List ℕ) (h : Sound t d m) where
         took x s e refl met (put_sound t d m h i x.key b own alone s good) (put_assembly t d m h i x.key b own alone s good)
 
     -- it has none: a free one is opened
-    opens : key_from 0 x.key t ≡ None → (c : Option ℕ) → free_from 0 t ≡ c → After (mapped (stepped_by x.piece) (opened_at x.key c))
+    opens : key_from 0 x.key t ≡ None → (c : Option ℕ) → free_from 0 t ≡ c → GoesTo (mapped (stepped_by x.piece) (opened_at x.key c))
     opens n (Some i) q =
         let a = free_found t i q in
         let b : i < slots = omega (arith, a.below, h.size) in
@@ -150,17 +148,17 @@ module _ (t : List Slot) (d m l : List ℕ) (h : Sound t d m) where
         turned x e (answered ∙ given) n q refl refl refl
 
     -- whichever is found
-    placed : (c : Option ℕ) → key_from 0 x.key t ≡ c → After (mapped (stepped_by x.piece) (placed_at t d m x.key c))
+    placed : (c : Option ℕ) → key_from 0 x.key t ≡ c → GoesTo (mapped (stepped_by x.piece) (placed_at t d m x.key c))
     placed (Some i) q = into i q
     placed None q = opens q (free_from 0 t) refl
 
   -- whatever the packet carries,
-  went_by : (a : Answer Keyed) → keyed_in l ≡ a → After (and_then a (placed_by t d m))
+  went_by : (a : Answer Keyed) → keyed_in l ≡ a → GoesTo (and_then a (placed_by t d m))
   went_by (refused n) e = kept n e refl refl refl refl
   went_by (gives x) e = placed x e (key_from 0 x.key t) refl
 
   -- and so after the call
-  pub went : (r : Placed) (d' m' : List ℕ) → Tables (table_take t d m l) t d m r d' m' → Went t d m l (says r.answer) r.table d' m'
+  pub went : (r : After Outcome) (d' m' : List ℕ) → Tables (table_take t d m l) t d m r d' m' → Went t d m l (says r.answer) r.table d' m'
   went r d' m' c =
       let o = c.answer ∙ ap (λ (y : Answer Placing). mapped (λ z. outcome z.state) y) answered in
       let s = c.slots_are ∙ ap (λ (y : Answer Placing). slots_after y t) answered in
@@ -198,11 +196,11 @@ abbrev pub put_out : Answer (List ℕ) → List ℕ → List ℕ
 put_out (gives b) o = written b o
 put_out (refused n) o = o
 
-pub record Discarding (t : List Slot) (d m : List ℕ) (k : Key) (r : Discarded) (d' m' : List ℕ) : Type 0 where
+pub record Discarding (t : List Slot) (d m : List ℕ) (k : Key) (r : After (Unit {0})) (d' m' : List ℕ) : Type 0 where
   pub answer : says r.answer ≡ gone_by (assembly_of t d m k)
   pub left : Left k t d m r.table d' m' (is_given (gone_by (assembly_of t d m k)))
 
-pub record Outgoing (t : List Slot) (d m : List ℕ) (k : Key) (o : List ℕ) (r : TakenOut) (d' m' o' : List ℕ) : Type 0 where
+pub record Outgoing (t : List Slot) (d m : List ℕ) (k : Key) (o : List ℕ) (r : After ℕ) (d' m' o' : List ℕ) : Type 0 where
   pub answer : says r.answer ≡ mapped length (out_by (length o) (assembly_of t d m k))
   pub output_is : o' ≡ put_out (out_by (length o) (assembly_of t d m k)) o
   pub left : Left k t d m r.table d' m' (is_given (out_by (length o) (assembly_of t d m k)))
@@ -225,7 +223,7 @@ module _ (t : List Slot) (d m : List ℕ) (k : Key) (h : Sound t d m) where
   gone_left (Some i) q = left_at i q
   gone_left None q = stayed refl refl refl
 
-  pub discarding : (r : Discarded) (d' m' : List ℕ) → Discards t d m k r d' m' → Discarding t d m k r d' m'
+  pub discarding : (r : After (Unit {0})) (d' m' : List ℕ) → Discards t d m k r d' m' → Discarding t d m k r d' m'
   discarding r d' m' c =
       let e = discard_found t d m k (key_from 0 k t) (sound_usable t d m h) refl in
       let s = c.slots_are ∙ ap (λ (a : Answer ℕ). slots_without a t) e in
@@ -269,7 +267,7 @@ module _ (t : List Slot) (d m : List ℕ) (k : Key) (h : Sound t d m) where
     out_put (gives x) = refl
     out_put (refused n) = refl
 
-    pub outgoing : (r : TakenOut) (d' m' o' : List ℕ) → TakesOut t d m k o r d' m' o' → Outgoing t d m k o r d' m' o'
+    pub outgoing : (r : After ℕ) (d' m' o' : List ℕ) → TakesOut t d m k o r d' m' o' → Outgoing t d m k o r d' m' o'
     unfolding out_answer
     outgoing r d' m' o' c =
         let e : out_answer t d m k (length o) ≡ out_at (key_from 0 k t) = pick_yes _ _ (sound_usable t d m h) in

@@ -13,9 +13,7 @@ use Rattle.assembly.specs.declared.Outcome.{Outcome}
 use Rattle.assembly.specs.Assembly.{State, outcome, step}
 use Rattle.assembly.specs.Carried.{same_key}
 use Rattle.table.specs.declared.Slot.{Slot}
-use Rattle.table.specs.declared.Placed.{Placed}
-use Rattle.table.specs.declared.Discarded.{Discarded}
-use Rattle.table.specs.declared.TakenOut.{TakenOut}
+use Rattle.table.specs.declared.After.{After}
 use Rattle.table.specs.Slots.{slot_bytes, slot_map, table_fits}
 use Rattle.table.specs.Table.{Placing, table_take, slots_after, payloads_after, maps_after, Tables, slots_without, part_without, Discards, Outing, slot_in, datagram_in, TakesOut}
 use Rattle.table.specs.Mixed.{Keyed, keyed_in, assembly_of}
@@ -120,13 +118,13 @@ module _ (t : List Slot) (d m : List ℕ) (k : Key) (l : List ℕ) (h : Sound t 
 
   -- whether a slot is emptied or not
   either_order : (b : Bool) (t₁ : List Slot) (d₁ m₁ : List ℕ) → Left k t d m t₁ d₁ m₁ b
-      → (p : Placed) (d₂ m₂ : List ℕ) → Tables (table_take t₁ d₁ m₁ l) t₁ d₁ m₁ p d₂ m₂
-      → (p' : Placed) (e₁ n₁ : List ℕ) → Tables (table_take t d m l) t d m p' e₁ n₁
+      → (p : After Outcome) (d₂ m₂ : List ℕ) → Tables (table_take t₁ d₁ m₁ l) t₁ d₁ m₁ p d₂ m₂
+      → (p' : After Outcome) (e₁ n₁ : List ℕ) → Tables (table_take t d m l) t d m p' e₁ n₁
       → (u₂ : List Slot) (e₂ n₂ : List ℕ) → Left k p'.table e₁ n₁ u₂ e₂ n₂ b
       → (p.answer ≡ p'.answer) × Alike p.table d₂ m₂ u₂ e₂ n₂
   either_order b t₁ d₁ m₁ (stayed s u v) p d₂ m₂ c p' e₁ n₁ c' u₂ e₂ n₂ (stayed s' u' v') =
       let x = tables_only (table_take t d m l) t d m p p' d₂ m₂ e₁ n₁ (rw (s, u, v) at c) c' in
-      (ap (λ (z : Placed). z.answer) x.0, λ j i. assembly_of ((ap (λ (z : Placed). z.table) x.0 ∙ sym s') i) ((x.1 ∙ sym u') i) ((x.2 ∙ sym v') i) j)
+      (ap (λ (z : After Outcome). z.answer) x.0, λ j i. assembly_of ((ap (λ (z : After Outcome). z.table) x.0 ∙ sym s') i) ((x.1 ∙ sym u') i) ((x.2 ∙ sym v') i) j)
   either_order b t₁ d₁ m₁ (emptied i free sound gone) p d₂ m₂ c p' e₁ n₁ c' u₂ e₂ n₂ (emptied i' free' sound' gone') =
       let x =
       emptied_first t₁ d₁ m₁ i free gone _ _ p.table d₂ m₂ p'.table e₁ n₁ u₂ e₂ n₂ (went t₁ d₁ m₁ l sound p d₂ m₂ c) (went t d m l h p' e₁ n₁ c') gone' in
@@ -134,7 +132,7 @@ module _ (t : List Slot) (d m : List ℕ) (k : Key) (l : List ℕ) (h : Sound t 
 
 -- ---- a table that 11 refuses is left as it is by every call
 module _ (t : List Slot) (d m : List ℕ) (bad : table_fits t (length d) (length m) ≡ false) where
-  taken_eleven : (l : List ℕ) (r : Placed) (d' m' : List ℕ) → Tables (table_take t d m l) t d m r d' m'
+  taken_eleven : (l : List ℕ) (r : After Outcome) (d' m' : List ℕ) → Tables (table_take t d m l) t d m r d' m'
       → (says r.answer ≡ refused 11) × (r.table ≡ t) × (d' ≡ d) × (m' ≡ m)
   taken_eleven l r d' m' c =
       let e = table_eleven t d m l bad in (
@@ -144,7 +142,7 @@ module _ (t : List Slot) (d m : List ℕ) (bad : table_fits t (length d) (length
         c.maps_are ∙ ap (λ (a : Answer Placing). maps_after a m) e,
       )
 
-  discarded_eleven : (k : Key) (r : Discarded) (d' m' : List ℕ) → Discards t d m k r d' m'
+  discarded_eleven : (k : Key) (r : After (Unit {0})) (d' m' : List ℕ) → Discards t d m k r d' m'
       → (says r.answer ≡ refused 11) × (r.table ≡ t) × (d' ≡ d) × (m' ≡ m)
   discarded_eleven k r d' m' c =
       let e = discard_eleven t d m k bad in (
@@ -154,7 +152,7 @@ module _ (t : List Slot) (d m : List ℕ) (bad : table_fits t (length d) (length
         c.maps_are ∙ ap (λ (a : Answer ℕ). part_without slot_map a m) e,
       )
 
-  out_eleven_kept : (k : Key) (o : List ℕ) (r : TakenOut) (d' m' o' : List ℕ) → TakesOut t d m k o r d' m' o'
+  out_eleven_kept : (k : Key) (o : List ℕ) (r : After ℕ) (d' m' o' : List ℕ) → TakesOut t d m k o r d' m' o'
       → (says r.answer ≡ refused 11) × (r.table ≡ t) × (d' ≡ d) × (m' ≡ m) × (o' ≡ o)
   out_eleven_kept k o r d' m' o' c =
       let e = out_eleven t d m k o bad in (
@@ -167,7 +165,7 @@ module _ (t : List Slot) (d m : List ℕ) (bad : table_fits t (length d) (length
 
 -- ---- both orders
 module _ (t : List Slot) (d m : List ℕ) (k : Key) (l : List ℕ) where
-  discard_unusable : table_fits t (length d) (length m) ≡ false → (g g' : Discarded) (p p' : Placed) (d₁ m₁ d₂ m₂ : List ℕ)
+  discard_unusable : table_fits t (length d) (length m) ≡ false → (g g' : After (Unit {0})) (p p' : After Outcome) (d₁ m₁ d₂ m₂ : List ℕ)
       → DiscardFirst t d m k l g p d₁ m₁ → DiscardLast t d m k l g' p' d₂ m₂
       → (g.answer ≡ g'.answer) × (p.answer ≡ p'.answer) × Alike p.table d₁ m₁ g'.table d₂ m₂
   discard_unusable bad g g' p p' d₁ m₁ d₂ m₂ a b =
@@ -180,7 +178,7 @@ module _ (t : List Slot) (d m : List ℕ) (k : Key) (l : List ℕ) where
         λ j i. assembly_of ((pt ∙ sym ht) i) ((pd ∙ sym hd) i) ((pm ∙ sym hm) i) j,
       )
 
-  out_unusable : table_fits t (length d) (length m) ≡ false → (o : List ℕ) (g g' : TakenOut) (p p' : Placed) (d₁ m₁ o₁ d₂ m₂ o₂ : List ℕ)
+  out_unusable : table_fits t (length d) (length m) ≡ false → (o : List ℕ) (g g' : After ℕ) (p p' : After Outcome) (d₁ m₁ o₁ d₂ m₂ o₂ : List ℕ)
       → OutFirst t d m k l o g p d₁ m₁ o₁ → OutLast t d m k l o g' p' d₂ m₂ o₂
       → (g.answer ≡ g'.answer) × (p.answer ≡ p'.answer) × (o₁ ≡ o₂) × Alike p.table d₁ m₁ g'.table d₂ m₂
   out_unusable bad o g g' p p' d₁ m₁ o₁ d₂ m₂ o₂ a b =
@@ -196,7 +194,7 @@ module _ (t : List Slot) (d m : List ℕ) (k : Key) (l : List ℕ) where
 
   module _ (h : Sound t d m) (foreign : Foreign k l) (room : HasSlot t d m l) where
     -- before and after the packet the assembly of k is the same, so both calls do the same
-    discard_usable : (g g' : Discarded) (p p' : Placed) (d₁ m₁ d₂ m₂ : List ℕ) → DiscardFirst t d m k l g p d₁ m₁ → DiscardLast t d m k l g' p' d₂ m₂
+    discard_usable : (g g' : After (Unit {0})) (p p' : After Outcome) (d₁ m₁ d₂ m₂ : List ℕ) → DiscardFirst t d m k l g p d₁ m₁ → DiscardLast t d m k l g' p' d₂ m₂
         → (g.answer ≡ g'.answer) × (p.answer ≡ p'.answer) × Alike p.table d₁ m₁ g'.table d₂ m₂
     discard_usable g g' p p' d₁ m₁ d₂ m₂ a b =
         let w = went t d m l h p' b.payloads b.maps b.takes in
@@ -207,7 +205,7 @@ module _ (t : List Slot) (d m : List ℕ) (k : Key) (l : List ℕ) where
         let z = either_order t d m k l h foreign room _ g.table a.payloads a.maps x.left p d₁ m₁ a.takes p' b.payloads b.maps b.takes g'.table d₂ m₂ left in
         (says_only g.answer g'.answer _ x.answer (y.answer ∙ ap gone_by same), z.0, z.1)
 
-    out_usable : (o : List ℕ) (g g' : TakenOut) (p p' : Placed) (d₁ m₁ o₁ d₂ m₂ o₂ : List ℕ) → OutFirst t d m k l o g p d₁ m₁ o₁
+    out_usable : (o : List ℕ) (g g' : After ℕ) (p p' : After Outcome) (d₁ m₁ o₁ d₂ m₂ o₂ : List ℕ) → OutFirst t d m k l o g p d₁ m₁ o₁
         → OutLast t d m k l o g' p' d₂ m₂ o₂
         → (g.answer ≡ g'.answer) × (p.answer ≡ p'.answer) × (o₁ ≡ o₂) × Alike p.table d₁ m₁ g'.table d₂ m₂
     out_usable o g g' p p' d₁ m₁ o₁ d₂ m₂ o₂ a b =

@@ -31,8 +31,7 @@ use Rattle.assembly.proofs.Steps.{steps_as}
 use Rattle.assembly.proofs.Calls.{put_by}
 use Rattle.table.specs.declared.Slot.{Slot}
 use Rattle.table.specs.declared.Landing.{Landing}
-use Rattle.table.specs.declared.Placed.{Placed}
-use Rattle.table.specs.declared.TakenOut.{TakenOut}
+use Rattle.table.specs.declared.After.{After}
 use Rattle.table.specs.Slots.{slots, slot_bytes, slot_map, part_of, with_part, free_slot, state_at}
 use Rattle.table.specs.Table.{Placing, placing, slots_after, Tables, Outing, outing, out_of, slots_without, part_without, slot_in, datagram_in}
 use Rattle.table.specs.Steps.{Stored, landed_of, Lands, PutAsks, Occupied, length_in, MovedOut, OutOf}
@@ -104,7 +103,7 @@ slots_by (gives x) t = set t x.slot (record { used = true; rec = x.taken.rec })
 slots_by (refused n) t = t
 
 -- with the answer and the slots after it
-lands_stored : (a : Answer Placing) (t : List Slot) (d m : List ℕ) (x : Result Landing Refusal) (d' m' : List ℕ) (r : Placed) → Lands a d m x d' m'
+lands_stored : (a : Answer Placing) (t : List Slot) (d m : List ℕ) (x : Result Landing Refusal) (d' m' : List ℕ) (r : After Outcome) → Lands a d m x d' m'
     → says r.answer ≡ answers_by (says x) → r.table ≡ slots_by (says x) t → Tables a t d m r d' m'
 lands_stored a t d m x d' m' r l q s =
     record {
@@ -122,11 +121,11 @@ lands_stored a t d m x d' m' r l q s =
     all_slots (gives y) = refl
     all_slots (refused n) = refl
 
-pub stored_lands : (a : Answer Placing) (t : List Slot) (d m : List ℕ) (x : Landing) (d' m' : List ℕ) (r : Placed) → Lands a d m (Ok x) d' m'
+pub stored_lands : (a : Answer Placing) (t : List Slot) (d m : List ℕ) (x : Landing) (d' m' : List ℕ) (r : After Outcome) → Lands a d m (Ok x) d' m'
     → Stored t x r → Tables a t d m r d' m'
 stored_lands a t d m x d' m' r l s = lands_stored a t d m (Ok x) d' m' r l (ap says s.answer) s.slots_are
 
-pub refused_stored : (a : Answer Placing) (t : List Slot) (d m : List ℕ) (e : Refusal) (d' m' : List ℕ) (r : Placed) → Lands a d m (Err e) d' m'
+pub refused_stored : (a : Answer Placing) (t : List Slot) (d m : List ℕ) (e : Refusal) (d' m' : List ℕ) (r : After Outcome) → Lands a d m (Err e) d' m'
     → (r.table ≡ t) × (says r.answer ≡ refused (number_of e)) → Tables a t d m r d' m'
 refused_stored a t d m e d' m' r l s = lands_stored a t d m (Err e) d' m' r l s.1 s.0
 
@@ -245,7 +244,7 @@ pub out_fitting : (s : State) (i room n : ℕ) → gives n ≡ length_in s → n
 out_fitting s i room n e h = out_by_lem s i room (gives n) e ∙ ap (mapped (λ k. outing s i)) (pick_no _ _ (le-ltb room n h))
 
 -- what that answer leaves: all as it was, or the slot emptied and the datagram in the output
-pub out_stayed : (t : List Slot) (i n : ℕ) (d m o : List ℕ) (r : TakenOut) → out_of (state_at t d m i) i (length o) ≡ refused n → r.table ≡ t
+pub out_stayed : (t : List Slot) (i n : ℕ) (d m o : List ℕ) (r : After ℕ) → out_of (state_at t d m i) i (length o) ≡ refused n → r.table ≡ t
     → says r.answer ≡ refused n → OutOf t i d m o r d m o
 out_stayed t i n d m o r e s q =
     record {
@@ -256,7 +255,7 @@ out_stayed t i n d m o r e s q =
       output_is = ap (λ (a : Answer Outing). datagram_in a o) (sym e);
     }
 
-pub out_moved : (t : List Slot) (i n : ℕ) (d m o d' m' o' : List ℕ) (r : TakenOut)
+pub out_moved : (t : List Slot) (i n : ℕ) (d m o d' m' o' : List ℕ) (r : After ℕ)
     → out_of (state_at t d m i) i (length o) ≡ gives (outing (state_at t d m i) i)
     → n ≡ length (held_bytes (state_at t d m i)) → MovedOut t i n d m o r d' m' o' → OutOf t i d m o r d' m' o'
 out_moved t i n d m o d' m' o' r e l c =

@@ -8,7 +8,8 @@ use Rattle.assembly.specs.Assembly.{State, opened, run}
 use Rattle.assembly.specs.Piece.{Piece, Contradictory, Same}
 use Rattle.assembly.specs.Carried.{key_of, same_key, fit_answer, piece_of}
 use Rattle.table.specs.declared.Slot.{Slot}
-use Rattle.table.specs.declared.Placed.{Placed}
+use Rattle.table.specs.declared.After.{After}
+use Rattle.assembly.specs.declared.Outcome.{Outcome}
 use Rattle.table.specs.Slots.{slots, slot_bytes, slot_map, free_slot, state_at, key_from}
 use Rattle.table.specs.Table.{table_take, Tables}
 
@@ -41,7 +42,7 @@ pub record AtMostEight (ls : List (List ℕ)) : Type 0 where
 -- "for pieces only, from an empty table": the packets ls were handed to it, and t, d and m are the slots and the buffers after
 pub data HandedTo : List (List ℕ) → List Slot → List ℕ → List ℕ → Type 0 where
   empty : (d m : List ℕ) → length d ≡ slot_bytes * slots → length m ≡ slot_map * slots → HandedTo [] (replicate slots free_slot) d m
-  more : (ls : List (List ℕ)) (t : List Slot) (d m l : List ℕ) (r : Placed) (d' m' : List ℕ) → HandedTo ls t d m
+  more : (ls : List (List ℕ)) (t : List Slot) (d m l : List ℕ) (r : After Outcome) (d' m' : List ℕ) → HandedTo ls t d m
       → Tables (table_take t d m l) t d m r d' m' → HandedTo (ls ++ (l ∷ [])) r.table d' m'
 
 -- the assembly of a key, in whichever slot it is; none where no slot has it

@@ -11,13 +11,13 @@ use Rattle.assembly.specs.Assembly.{State, record_fits, complete, held_bytes}
 use Rattle.assembly.specs.Carried.{fit_answer}
 use Rattle.table.specs.declared.Slot.{Slot}
 use Rattle.table.specs.declared.Landing.{Landing}
-use Rattle.table.specs.declared.Placed.{Placed}
-use Rattle.table.specs.declared.TakenOut.{TakenOut}
+use Rattle.table.specs.declared.After.{After}
+use Rattle.assembly.specs.declared.Outcome.{Outcome}
 use Rattle.table.specs.Slots.{slots, slot_bytes, slot_map, part_of, free_slot, state_at, table_fits, Sized}
 use Rattle.table.specs.Table.{Placing, piece_for, payloads_after, maps_after, out_of, slot_in, slots_without, part_without, datagram_in}
 
 -- a piece went to a slot: its new record is kept there, and the answer that goes with it is given
-pub record Stored (t : List Slot) (x : Landing) (r : Placed) : Type 0 where
+pub record Stored (t : List Slot) (x : Landing) (r : After Outcome) : Type 0 where
   pub answer : r.answer ≡ Ok x.taken.answer
   pub slots_are : r.table ≡ set t x.slot (record { used = true; rec = x.taken.rec })
 
@@ -59,14 +59,14 @@ pub record Occupied (t : List Slot) (i d m : ℕ) : Type 0 where
 abbrev pub length_in : State → Answer ℕ
 length_in s = cond (complete s) (gives (length (held_bytes s))) (refused 27)
 
-pub record MovedOut (t : List Slot) (i n : ℕ) (d m o : List ℕ) (r : TakenOut) (d' m' o' : List ℕ) : Type 0 where
+pub record MovedOut (t : List Slot) (i n : ℕ) (d m o : List ℕ) (r : After ℕ) (d' m' o' : List ℕ) : Type 0 where
   pub answer : says r.answer ≡ gives n
   pub slots_are : r.table ≡ slots_without (gives i) t
   pub payloads_are : d' ≡ part_without slot_bytes (gives i) d
   pub maps_are : m' ≡ part_without slot_map (gives i) m
   pub output_is : o' ≡ written (take n (part_of slot_bytes i d)) o
 
-pub record OutOf (t : List Slot) (i : ℕ) (d m o : List ℕ) (r : TakenOut) (d' m' o' : List ℕ) : Type 0 where
+pub record OutOf (t : List Slot) (i : ℕ) (d m o : List ℕ) (r : After ℕ) (d' m' o' : List ℕ) : Type 0 where
   pub answer : says r.answer ≡ mapped (λ x. length x.datagram) (out_of (state_at t d m i) i (length o))
   pub slots_are : r.table ≡ slots_without (slot_in (out_of (state_at t d m i) i (length o))) t
   pub payloads_are : d' ≡ part_without slot_bytes (slot_in (out_of (state_at t d m i) i (length o))) d

@@ -10,9 +10,8 @@ use Rattle.assembly.specs.Piece.{Piece}
 use Rattle.assembly.specs.Carried.{key_of, fit_answer}
 use Rattle.assembly.specs.View.{piece}
 use Rattle.table.specs.declared.Slot.{Slot}
-use Rattle.table.specs.declared.Placed.{Placed}
-use Rattle.table.specs.declared.Discarded.{Discarded}
-use Rattle.table.specs.declared.TakenOut.{TakenOut}
+use Rattle.table.specs.declared.After.{After}
+use Rattle.assembly.specs.declared.Outcome.{Outcome}
 use Rattle.table.specs.Slots.{slot_bytes, slot_map, with_part, free_slot, slot_of, state_at, key_from, free_from, table_fits}
 
 -- ---- taking a piece
@@ -65,7 +64,7 @@ maps_after (gives x) m = with_part slot_map x.slot x.state.map m
 maps_after (refused n) m = m
 
 -- t, d and m are the slots and the buffers before, d' and m' the buffers after
-pub record Tables (a : Answer Placing) (t : List Slot) (d m : List ℕ) (r : Placed) (d' m' : List ℕ) : Type 0 where
+pub record Tables (a : Answer Placing) (t : List Slot) (d m : List ℕ) (r : After Outcome) (d' m' : List ℕ) : Type 0 where
   pub answer : says r.answer ≡ mapped (λ x. outcome x.state) a
   pub slots_are : r.table ≡ slots_after a t
   pub payloads_are : d' ≡ payloads_after a d
@@ -91,7 +90,7 @@ abbrev pub part_without : ℕ → Answer ℕ → List ℕ → List ℕ
 part_without n (gives i) l = with_part n i (zeros n) l
 part_without n (refused x) l = l
 
-pub record Discards (t : List Slot) (d m : List ℕ) (k : Key) (r : Discarded) (d' m' : List ℕ) : Type 0 where
+pub record Discards (t : List Slot) (d m : List ℕ) (k : Key) (r : After (Unit {0})) (d' m' : List ℕ) : Type 0 where
   pub answer : says r.answer ≡ mapped (λ i. tt {0}) (discard_answer t (length d) (length m) k)
   pub slots_are : r.table ≡ slots_without (discard_answer t (length d) (length m) k) t
   pub payloads_are : d' ≡ part_without slot_bytes (discard_answer t (length d) (length m) k) d
@@ -123,7 +122,7 @@ datagram_in (gives x) o = written x.datagram o
 datagram_in (refused n) o = o
 
 -- o is the output before, o' after
-pub record TakesOut (t : List Slot) (d m : List ℕ) (k : Key) (o : List ℕ) (r : TakenOut) (d' m' o' : List ℕ) : Type 0 where
+pub record TakesOut (t : List Slot) (d m : List ℕ) (k : Key) (o : List ℕ) (r : After ℕ) (d' m' o' : List ℕ) : Type 0 where
   pub answer : says r.answer ≡ mapped (λ x. length x.datagram) (out_answer t d m k (length o))
   pub slots_are : r.table ≡ slots_without (slot_in (out_answer t d m k (length o))) t
   pub payloads_are : d' ≡ part_without slot_bytes (slot_in (out_answer t d m k (length o))) d

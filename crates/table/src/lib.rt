@@ -37,25 +37,12 @@ struct Landing {
     taken: Taken,
 }
 
-// The table after a piece, and the answer.
+// The table after a call, and the answer: after a piece how its assembly stands, after a datagram was taken out its length, and after an assembly was
+// discarded nothing more.
 #[derive(Clone, Copy, Drop)]
-pub struct Placed {
+pub struct After<T> {
     pub table: [Slot; 8],
-    pub answer: Result<Outcome, Refusal>,
-}
-
-// The table after a datagram was taken out, and the answer: its length.
-#[derive(Clone, Copy, Drop)]
-pub struct TakenOut {
-    pub table: [Slot; 8],
-    pub answer: Result<usize, Refusal>,
-}
-
-// The table after an assembly was discarded, and the answer.
-#[derive(Clone, Copy, Drop)]
-pub struct Discarded {
-    pub table: [Slot; 8],
-    pub answer: Result<(), Refusal>,
+    pub answer: Result<T, Refusal>,
 }
 
 fn no_key() -> Key
@@ -210,15 +197,15 @@ fn update(t: [Slot; 8], i: usize, s: Slot) -> [Slot; 8]
     u
 }
 
-fn refuse(table: [Slot; 8], refusal: Refusal) -> Placed
+fn refuse<T>(table: [Slot; 8], refusal: Refusal) -> After<T>
     ensures { (result.table ≡ table) × (says result.answer ≡ refused (number_of refusal)) }
 {
     let answer = Err(refusal);
-    Placed { table, answer }
+    After { table, answer }
 }
 
 // The slot with its new record, and the answer that goes with it.
-fn stored(table: [Slot; 8], landing: Landing) -> Placed
+fn stored(table: [Slot; 8], landing: Landing) -> After<Outcome>
     requires { landing.slot < 8 }
     ensures { Stored table landing result }
 {
@@ -228,7 +215,7 @@ fn stored(table: [Slot; 8], landing: Landing) -> Placed
     let slot = Slot { used: true, rec };
     let table = update(table, i, slot);
     let answer = Ok(taken.answer);
-    Placed { table, answer }
+    After { table, answer }
 }
 
 // The step by a piece on slot i, which has this record.
@@ -337,7 +324,7 @@ fn land(
 }
 
 // Takes the piece that a packet carries, or refuses it and leaves the table and the buffers as they were. The data is looked at where it lies.
-pub fn take(table: [Slot; 8], packet: &[u8], payloads: &mut [u8], maps: &mut [u8]) -> Placed
+pub fn take(table: [Slot; 8], packet: &[u8], payloads: &mut [u8], maps: &mut [u8]) -> After<Outcome>
     ensures { Tables (table_take table payloads.old maps.old packet.now)
         table payloads.old maps.old result payloads.new maps.new }
 {
@@ -361,6 +348,7 @@ fn empty_at(table: [Slot; 8], i: usize, payloads: &mut [u8], maps: &mut [u8]) ->
     update(table, i, slot)
 }
 
+<<<<<<< HEAD
 // As `refuse`, for discarding: one function for the three calls would have one type for their answers, and lose what each gives.
 fn keep(table: [Slot; 8], refusal: Refusal) -> Discarded
     ensures { (result.table ≡ table) × (says result.answer ≡ refused (number_of refusal)) }
@@ -369,23 +357,26 @@ fn keep(table: [Slot; 8], refusal: Refusal) -> Discarded
     Discarded { table, answer }
 }
 
+=======
+>>>>>>> 5eee087abfb668104c5fd25496c74d373cdbb10a
 // Discards the assembly of a key, whatever it holds, or refuses and leaves the table and the buffers as they were.
-pub fn discard(table: [Slot; 8], key: Key, payloads: &mut [u8], maps: &mut [u8]) -> Discarded
+pub fn discard(table: [Slot; 8], key: Key, payloads: &mut [u8], maps: &mut [u8]) -> After<()>
     ensures { Discards table payloads.old maps.old key result payloads.new maps.new }
 {
     if !is_usable(table, payloads.len(), maps.len()) {
-        return keep(table, Refusal::BadAssembly);
+        return refuse(table, Refusal::BadAssembly);
     }
     match key_from(table, 0, key) {
-        None => keep(table, Refusal::NoDatagram),
+        None => refuse(table, Refusal::NoDatagram), // there is none to discard
         Some(i) => {
             let table = empty_at(table, i, payloads, maps);
             let answer = Ok(());
-            Discarded { table, answer }
+            After { table, answer }
         }
     }
 }
 
+<<<<<<< HEAD
 // .. and for taking out.
 fn stay(table: [Slot; 8], refusal: Refusal) -> TakenOut
     ensures { (result.table ≡ table) × (says result.answer ≡ refused (number_of refusal)) }
@@ -394,6 +385,8 @@ fn stay(table: [Slot; 8], refusal: Refusal) -> TakenOut
     TakenOut { table, answer }
 }
 
+=======
+>>>>>>> 5eee087abfb668104c5fd25496c74d373cdbb10a
 // The length of the complete datagram in slot i, or a refusal's number.
 fn length_at(table: [Slot; 8], i: usize, payloads: &[u8], maps: &[u8]) -> Result<usize, Refusal>
     requires { Occupied table i (length payloads.now) (length maps.now) }
@@ -423,7 +416,7 @@ fn move_out(
     payloads: &mut [u8],
     maps: &mut [u8],
     out: &mut [u8],
-) -> TakenOut
+) -> After<usize>
     requires { (Sized i (length payloads.old) (length maps.old)) × (n ≤ slot_bytes) × (n ≤ length out.old) }
     ensures { MovedOut table i n payloads.old maps.old out.old result payloads.new maps.new out.new }
 {
@@ -431,7 +424,7 @@ fn move_out(
     copy(&payloads[at..at + n], out);
     let table = empty_at(table, i, payloads, maps);
     let answer = Ok(n);
-    TakenOut { table, answer }
+    After { table, answer }
 }
 
 // Takes the complete datagram of a key out of its slot, or refuses and leaves the table and all buffers as they were.
@@ -441,14 +434,14 @@ pub fn take_out(
     payloads: &mut [u8],
     maps: &mut [u8],
     out: &mut [u8],
-) -> TakenOut
+) -> After<usize>
     ensures { TakesOut table payloads.old maps.old key out.old result payloads.new maps.new out.new }
 {
     if !is_usable(table, payloads.len(), maps.len()) {
-        return stay(table, Refusal::BadAssembly);
+        return refuse(table, Refusal::BadAssembly);
     }
     match key_from(table, 0, key) {
-        None => stay(table, Refusal::NoDatagram),
+        None => refuse(table, Refusal::NoDatagram),
         Some(i) => out_of(table, i, payloads, maps, out),
     }
 }
@@ -459,15 +452,15 @@ fn out_of(
     payloads: &mut [u8],
     maps: &mut [u8],
     out: &mut [u8],
-) -> TakenOut
+) -> After<usize>
     requires { Occupied table i (length payloads.old) (length maps.old) }
     ensures { OutOf table i payloads.old maps.old out.old result payloads.new maps.new out.new }
 {
     match length_at(table, i, payloads, maps) {
-        Err(refusal) => stay(table, refusal),
+        Err(refusal) => refuse(table, refusal),
         Ok(n) => {
             if out.len() < n {
-                return stay(table, Refusal::NoRoom);
+                return refuse(table, Refusal::NoRoom);
             }
             move_out(table, i, n, payloads, maps, out)
         }

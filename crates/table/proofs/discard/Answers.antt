@@ -12,7 +12,7 @@ pub returns-then-not-is_usable : goal.returns-then-not-is_usable
 returns-then-not-is_usable c =
     let a = c.args in
     let u : table_fits a.table (length a.payloads.now) (length a.maps.now) ≡ false = sym c.is_usable.ensures ∙ c.if-not-is_usable.true in
-    discard_refused a.table a.payloads.now a.maps.now a.key 11 _ (discard_eleven a.table a.payloads.now a.maps.now a.key u) c.keep.ensures
+    discard_refused a.table a.payloads.now a.maps.now a.key 11 _ (discard_eleven a.table a.payloads.now a.maps.now a.key u) c.refuse.ensures
 
 pub empty_at-table-requires : goal.empty_at-table-requires
 empty_at-table-requires c =
@@ -27,7 +27,7 @@ returns-in-None c =
     let a = c.args in
     let u : table_fits a.table (length a.payloads.now) (length a.maps.now) ≡ true = sym c.is_usable.ensures ∙ c.if-not-is_usable.false in
     let e : key_from 0 a.key a.table ≡ None = sym c.key_from.ensures ∙ c.in-None.is in
-    discard_refused a.table a.payloads.now a.maps.now a.key 27 _ (discard_found a.table a.payloads.now a.maps.now a.key None u e) c.keep-in-None.ensures
+    discard_refused a.table a.payloads.now a.maps.now a.key 27 _ (discard_found a.table a.payloads.now a.maps.now a.key None u e) c.refuse-in-None.ensures
 
 pub returns-in-Some : goal.returns-in-Some
 returns-in-Some c =

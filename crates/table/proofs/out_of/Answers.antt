@@ -12,7 +12,7 @@ returns-then-out-n c =
     let s = state_at a.table a.payloads.now a.maps.now a.i in
     let e = c.in-Ok.ensures in
     let u = out_full s a.i (length a.out.now) _ e c.if-out-n.true in
-    out_stayed a.table a.i 3 a.payloads.now a.maps.now a.out.now _ u c.stay-then-out-n.ensures.0 c.stay-then-out-n.ensures.1
+    out_stayed a.table a.i 3 a.payloads.now a.maps.now a.out.now _ u c.refuse-then-out-n.ensures.0 c.refuse-then-out-n.ensures.1
 
 pub move_out-requires : goal.move_out-requires
 move_out-requires c =
@@ -28,7 +28,7 @@ returns-in-Err c =
     let s = state_at a.table a.payloads.now a.maps.now a.i in
     let e = c.in-Err.ensures in
     let u = out_by_lem s a.i (length a.out.now) _ e in
-    out_stayed a.table a.i _ a.payloads.now a.maps.now a.out.now _ u c.stay.ensures.0 c.stay.ensures.1
+    out_stayed a.table a.i _ a.payloads.now a.maps.now a.out.now _ u c.refuse.ensures.0 c.refuse.ensures.1
 
 pub returns-else-out-n : goal.returns-else-out-n
 returns-else-out-n c =

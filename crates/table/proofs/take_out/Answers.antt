@@ -12,7 +12,7 @@ pub returns-then-not-is_usable : goal.returns-then-not-is_usable
 returns-then-not-is_usable c =
     let a = c.args in
     let u : table_fits a.table (length a.payloads.now) (length a.maps.now) ≡ false = sym c.is_usable.ensures ∙ c.if-not-is_usable.true in
-    out_refused a.table a.payloads.now a.maps.now a.key a.out.now 11 _ (out_eleven a.table a.payloads.now a.maps.now a.key a.out.now u) c.stay.ensures
+    out_refused a.table a.payloads.now a.maps.now a.key a.out.now 11 _ (out_eleven a.table a.payloads.now a.maps.now a.key a.out.now u) c.refuse.ensures
 
 pub out_of-requires : goal.out_of-requires
 out_of-requires c =
@@ -27,7 +27,7 @@ returns-in-None c =
     let a = c.args in
     let u : table_fits a.table (length a.payloads.now) (length a.maps.now) ≡ true = sym c.is_usable.ensures ∙ c.if-not-is_usable.false in
     let e : key_from 0 a.key a.table ≡ None = sym c.key_from.ensures ∙ c.in-None.is in
-    out_refused a.table a.payloads.now a.maps.now a.key a.out.now 27 _ (out_absent a.table a.payloads.now a.maps.now a.key a.out.now u e) c.stay-in-None.ensures
+    out_refused a.table a.payloads.now a.maps.now a.key a.out.now 27 _ (out_absent a.table a.payloads.now a.maps.now a.key a.out.now u e) c.refuse-in-None.ensures
 
 pub returns-in-Some : goal.returns-in-Some
 returns-in-Some c =
