@@ -1,13 +1,12 @@
 -- Laws of records, parts and buffers.
 use mathlib.Core.Path.{◌≡◌, refl, sym, ap, ◌∙◌}
 use Prim.Native.Nat.{ℕ, ◌+◌, ◌-◌, ◌≤◌}
-use native.Mathlib.Omega.{arith}
-use mathlib.Core.Bool.{Bool, true, false}
-use mathlib.Core.List.{List, ◌++◌, append_assoc}
-use lib.ListN.{length, take, drop, replicate, length-append, length-replicate, take-append-drop}
+use mathlib.Core.Bool.{true}
+use mathlib.Core.List.{List, append_assoc}
+use lib.ListN.{length, take, length-append, take-append-drop}
 use lib.Seq.{length-take-le}
 use lib.Dec.{leb, eqb}
-use borrow.Author.Tests.{leb-true, leb-false, eqb-true, le-leb, lt-leb}
+use borrow.Author.Tests.{leb-true, eqb-true}
 use borrow.Rule.Slice.PartMut.{mid_of, put_mid}
 use Rattle.pkt.specs.Written.{written}
 use Rattle.pkt.proofs.Choice.{and_both}
@@ -41,16 +40,3 @@ placed_lent d b e n h q =
     let l = length-take-le n b h in
     let w : b ≡ written (take n b) b = ap (λ (x : List ℕ). x) (sym (rw l (take-append-drop n b))) in
     written_behind (take n b) d d b b e n l w refl q ∙ rw (length-append, l, append_assoc)
-
--- The test of a length against what is left behind a place, and of the end against the whole.
-pub sub_test : (a b c : ℕ) → a ≤ c → leb b (c - a) ≡ leb (a + b) c
-sub_test a b c h = go (leb b (c - a)) refl
-  where
-    go : (t : Bool) → leb b (c - a) ≡ t → t ≡ leb (a + b) c
-    go true e = sym (le-leb (a + b) c (omega (arith, leb-true b (c - a) e)))
-    go false e = sym (lt-leb (a + b) c (omega (arith, leb-false b (c - a) e)))
-
--- A loop that filled the first n bytes is done.
-pub fill_done : (i n v : ℕ) (d : List ℕ) → i ≡ n → replicate i v ++ drop i d ≡ written (replicate n v) d
-unfolding written
-fill_done i n v d e = rw (length-replicate, e)

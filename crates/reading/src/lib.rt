@@ -49,6 +49,7 @@ fn le32(s: &[u8], at: usize) -> u32
 }
 
 // Whether the record at a place is cut short, its header or its bytes, or is above 65,535 bytes.
+#[tactic(auto, using(crate::proofs::Numbers::number_behind), unfolding(pcap::specs::Read::is_broken, pcap::specs::Read::record_size))]
 fn is_broken(s: &[u8], at: usize) -> bool
     ensures { result ≡ is_broken (drop at s.now) }
 {
@@ -64,6 +65,7 @@ fn is_broken(s: &[u8], at: usize) -> bool
 }
 
 // The bytes of the record at a place, its header among them.
+#[tactic(auto, using(crate::proofs::Broken::header_there, crate::proofs::Numbers::number_behind), unfolding(pcap::specs::Read::record_size))]
 fn size(s: &[u8], at: usize) -> usize
     requires { is_broken (drop at s.now) ≡ false }
     ensures { result ≡ record_size (drop at s.now) }
@@ -72,6 +74,7 @@ fn size(s: &[u8], at: usize) -> usize
 }
 
 // What stands at a place behind count records: a record, or None at the end.
+#[tactic(auto, using(crate::proofs::Broken::header_there, crate::proofs::Numbers::number_behind), unfolding(pcap::specs::Read::record_at))]
 pub fn step_at(s: &[u8], at: usize, count: usize) -> Result<Option<Spot>, ListRefusal>
     ensures { list_says result ≡ step_at s.now at count }
 {
@@ -105,6 +108,7 @@ pub fn more_at(s: &[u8], at: usize) -> bool
 }
 
 // The place behind the record at a place, or the place itself where none stands.
+#[tactic(auto, using(crate::proofs::Broken::bytes_there))]
 pub fn past_at(s: &[u8], at: usize) -> usize
     ensures { result ≡ past_at s.now at }
 {

@@ -1,40 +1,8 @@
--- The tests that led there pick the case, and each number of a record is read where it stands.
-use Rattle.std.proofs.Common.{◌≡◌, ℕ, length, drop, sym, ap, ◌∙◌, arith, length-drop, le-ltb, eq-eqb, ne_eqb}
+-- The tests that led there pick the record, and each of its numbers is read where it stands.
+use Rattle.std.proofs.Common.{◌≡◌, ℕ, length, drop, sym, ap, ◌∙◌, arith, length-drop, le-ltb, ne_eqb}
 use Rattle.pcap.specs.Read.{number, record_at}
 use Rattle.reading.proofs.Numbers.{number_behind}
-use Rattle.reading.proofs.Broken.{broken_no}
 use Rattle.reading.proofs.step_at.Goals as goal
-
-pub returns-then-s-at : goal.returns-then-s-at
-returns-then-s-at c =
-    let a = c.args in
-    let none : length (drop a.at a.s.now) ≡ 0 = omega (arith, length-drop a.at a.s.now) in
-    simp (le-ltb _ _ c.if-at-lt24.false, eq-eqb _ _ none)
-
-pub le32-requires : goal.le32-requires
-le32-requires c =
-    let a = c.args in
-    omega (arith, length-drop a.at a.s.now, (broken_no _ (sym c.is_broken.ensures ∙ c.if-is_broken.false)).0)
-
-pub le32-requires-2 : goal.le32-requires-2
-le32-requires-2 c =
-    let a = c.args in
-    omega (arith, length-drop a.at a.s.now, (broken_no _ (sym c.is_broken.ensures ∙ c.if-is_broken.false)).0)
-
-pub overflow_add-result : goal.overflow_add-result
-overflow_add-result c =
-    let a = c.args in
-    omega (arith, length-drop a.at a.s.now, (broken_no _ (sym c.is_broken.ensures ∙ c.if-is_broken.false)).0)
-
-pub le32-requires-3 : goal.le32-requires-3
-le32-requires-3 c =
-    let a = c.args in
-    omega (arith, length-drop a.at a.s.now, (broken_no _ (sym c.is_broken.ensures ∙ c.if-is_broken.false)).0)
-
-pub le32-requires-4 : goal.le32-requires-4
-le32-requires-4 c =
-    let a = c.args in
-    omega (arith, length-drop a.at a.s.now, (broken_no _ (sym c.is_broken.ensures ∙ c.if-is_broken.false)).0)
 
 pub returns : goal.returns
 unfolding record_at
