@@ -6,19 +6,17 @@ use native.Mathlib.Nat.{div-lt_iff_lt-mul}
 use native.Mathlib.Omega.{arith}
 use lib.ListN.{length, take, drop, length-take}
 use borrow.Author.Tests.{le-ltb}
-use Rattle.pkt.specs.Answers.{Answer, gives, mapped}
+use Rattle.pkt.specs.Answers.{Answer, gives, says, mapped}
 use Rattle.pkt.specs.Written.{written, leaves}
 use Rattle.pcap.specs.Pcap.{records_bytes}
 use Rattle.feed.specs.declared.Feed.{Feed}
 use Rattle.feed.specs.declared.Written.{Written}
-use Rattle.feed.specs.declared.Fed.{Fed}
-use Rattle.feed.specs.declared.Fed.TheVariants as fed
+use Rattle.std.specs.Prelude.{Result, Option, Ok, Err, Some}
+use Rattle.std.specs.Result.{result_unwrap_or}
+use Rattle.pkt.specs.declared.refusal.Refusal.{Refusal}
 use Rattle.planner.specs.Cutting.{blocks_in, full_above, piece_count}
-use Rattle.feed.specs.Feed.{next_feed, fed_says, written_for, frame_size, frame_records, feed_answer, Feeds}
-use Rattle.lapfeed.specs.declared.Turn.{Turn}
-use Rattle.lapfeed.specs.declared.Turn.TheVariants.{More}
+use Rattle.feed.specs.Feed.{next_feed, written_for, frame_size, frame_records, feed_answer, Feeds}
 use Rattle.lapfeed.specs.Frames.{second_of, micro_of, most_records, Ready, Put, Follows}
-use Rattle.lapfeed.specs.Steps.{written_of}
 
 -- what one packet cannot carry takes at most 8,189 full ones
 few_full : (above full : ℕ) → 8 ≤ full → above ≤ 65507 → full_above above full < 8190
@@ -43,17 +41,17 @@ not_refused f i n usec scratch out t r =
     )
 
 -- what a frame that was not refused wrote
-given_written : (f : Feed) (r : Fed) (w : Written) → fed_says r ≡ gives w → written_of f r ≡ w
-given_written f (fed.Frame v) w e = cc
-given_written f (fed.Refused n) w e = let z : ◌≡◌ {A = ℕ} 0 1 = cc in absurd (omega arith)
+given_written : (r : Result Written Refusal) (v w : Written) → says r ≡ gives w → result_unwrap_or r v ≡ w
+given_written (Ok u) v w e = cc
+given_written (Err n) v w e = absurd cc
 
-pub records_put : (f : Feed) (i : ℕ) (b s o : List ℕ) (sec usec : ℕ) (r : Fed) (v : Written) (s' o' : List ℕ)
+pub records_put : (f : Feed) (i : ℕ) (b s o : List ℕ) (sec usec : ℕ) (r : Result Written Refusal) (n v : Written) (s' o' : List ℕ)
     → Ready f i (length b) (length s) (length o) → sec ≡ second_of i → usec ≡ micro_of i → usec ≤ 999999
-    → Feeds f b sec usec s o r s' o' → v ≡ written_of f r → Put f i b o v o'
-records_put f i b s o sec usec r v s' o' ready at-sec at-usec low x is =
+    → Feeds f b sec usec s o r s' o' → v ≡ result_unwrap_or r n → Put f i b o v o'
+records_put f i b s o sec usec r n v s' o' ready at-sec at-usec low x is =
     let g = not_refused f i (length b) usec (length s) (length o) low ready in
     let w : Written = written_for f (length b) (frame_size f.link (length b)) in
-    let e : v ≡ w = is ∙ given_written f r w (x.answer ∙ ap (mapped (written_for f (length b))) g) in
+    let e : v ≡ w = is ∙ given_written r n w (x.answer ∙ ap (mapped (written_for f (length b))) g) in
     record {
       answer = e;
       within = omega (arith, ap (λ (y : Written). y.bytes) e, size_most f.link (length b) ready.least ready.few);
@@ -67,7 +65,7 @@ records_put f i b s o sec usec r v s' o' ready at-sec at-usec low x is =
 pub put_next : (f : Feed) (i : ℕ) (b o : List ℕ) (r : Written) (o' : List ℕ) → Put f i b o r o' → r.feed ≡ next_feed f
 put_next f i b o r o' x = ap (λ (w : Written). w.feed) x.answer
 
-pub led_on : (f g : Feed) (r : Turn) → Follows f r → r ≡ More g → g ≡ next_feed f
+pub led_on : (f g : Feed) (r : Option Feed) → Follows f r → r ≡ Some g → g ≡ next_feed f
 led_on f g r x e = rw e at x
 
 -- the buffers: a frame's part of the input, and the whole of the others

@@ -1,5 +1,5 @@
 -- The frames of the program: when each goes out, and what is written of it.
-use Rattle.std.specs.Prelude.{ℕ, ◌+◌, ◌*◌, ◌/◌, ◌%◌, ◌≤◌, ◌<◌, ◌≡◌, List, length}
+use Rattle.std.specs.Prelude.{ℕ, ◌+◌, ◌*◌, ◌/◌, ◌%◌, ◌≤◌, ◌<◌, ◌≡◌, Option, Some, None, List, length}
 use Rattle.pkt.specs.Answers.{most_udp}
 use Rattle.pkt.specs.Written.{written}
 use Rattle.pcap.specs.Pcap.{records_bytes}
@@ -7,8 +7,6 @@ use Rattle.feed.specs.declared.Feed.{Feed}
 use Rattle.feed.specs.declared.Written.{Written}
 use Rattle.feed.specs.Feed.{least_link, most_link, next_feed, written_for, frame_size, frame_records}
 use Rattle.lapfeed.specs.declared.setup.Setup.{Setup}
-use Rattle.lapfeed.specs.declared.Turn.{Turn}
-use Rattle.lapfeed.specs.declared.Turn.TheVariants.{More, Done}
 
 -- "240 a second from time 0": the second and the microsecond of frame i, counted from 0
 abbrev pub second_of : ℕ → ℕ
@@ -42,9 +40,9 @@ pub record Put (f : Feed) (i : ℕ) (b o : List ℕ) (r : Written) (o' : List �
   pub after : o' ≡ written (records_bytes (frame_records f b (second_of i) (micro_of i))) o
 
 -- where there is more to come, the feed is the one after this frame
-abbrev pub Follows : Feed → Turn → Type 0
-Follows f (More g) = g ≡ next_feed f
-Follows f Done = Unit {0}
+abbrev pub Follows : Feed → Option Feed → Type 0
+Follows f (Some g) = g ≡ next_feed f
+Follows f None = Unit {0}
 
 -- what good words ask for
 pub record SetUp (s : Setup) : Type 0 where

@@ -2,9 +2,8 @@
 ghost use Rattle.std.specs.Prelude.{◌≡◌, ◌<◌, ◌≤◌, length};
 ghost use Rattle.pcap.specs.Answers.{most_micros};
 ghost use Rattle.lapfeed.specs.Frames.{second_of, micro_of, most_frames, Ready, Put};
-ghost use Rattle.lapfeed.specs.Steps.{written_of};
 
-use feed::{Fed, Feed, Written};
+use feed::{Feed, Written};
 
 // As many frames as have a second of 32 bits: 240 for each.
 pub const MOST_FRAMES: u64 = 1030792151040;
@@ -26,27 +25,15 @@ fn micro(i: u64) -> u32
     (i % 240 * 1000000 / 240) as u32
 }
 
-// What was written; of a refused frame nothing.
-fn written(feed: Feed, fed: Fed) -> Written
-    ensures { result ≡ written_of feed fed }
-{
-    match fed {
-        Fed::Frame(w) => w,
-        Fed::Refused(_) => Written {
-            feed,
-            bytes: 0,
-            pieces: 0,
-        },
-    }
-}
-
 // The records of frame i at the start of out.
 pub(crate) fn put(feed: Feed, i: u64, bytes: &[u8], scratch: &mut [u8], out: &mut [u8]) -> Written
     requires { Ready feed i (length bytes.now) (length scratch.old) (length out.old) }
     ensures { Put feed i bytes.now out.old result out.new }
 {
-    written(
+    let nothing = Written {
         feed,
-        feed::frame(feed, bytes, second(i), micro(i), scratch, out),
-    )
+        bytes: 0,
+        pieces: 0,
+    };
+    feed::frame(feed, bytes, second(i), micro(i), scratch, out).unwrap_or(nothing)
 }

@@ -4,55 +4,37 @@
 mod frames;
 mod setup;
 
-ghost use Rattle.std.specs.Prelude.{◌≤◌, length};
+ghost use Rattle.std.specs.Prelude.{◌≤◌, length, IfOk};
 ghost use Rattle.lapfeed.specs.Frames.{Ready, Follows, SetUp};
 
 use feed::Feed;
 use pkt::limit;
-use setup::{Setup, Words};
-use std::env::FillError;
+use setup::Setup;
+use std::env;
+use std::env::Args;
 use std::io::{Error, Read};
-use std::rt::Env;
-
-const STDERR_FILENO: i32 = 2;
-
-// What was read: n bytes, and why reading failed, if it did.
-#[derive(Clone, Copy, Drop)]
-struct Got {
-    n: usize,
-    failed: Option<Error>,
-}
-
-// What a turn leads to: another with this feed, or none.
-#[derive(Clone, Copy, Drop)]
-enum Turn {
-    More(Feed),
-    Done,
-}
 
 // Says on standard error what failed, and why.
 fn say_failed(rt: &impl Eprint, what: &str, e: Error) {
     let _ = eprintln!(rt; "lapfeed: {what}: {e}");
 }
 
-// Reads until the buffer is full or the input ends.
-fn fill(from: &mut impl Read, buf: &mut [u8]) -> Got
-    ensures { result.n ≤ length buf.new }
+// Reads until the buffer is full or the input ends, and answers how many bytes were read.
+fn fill(from: &mut impl Read, buf: &mut [u8]) -> Result<usize, Error>
+    ensures { IfOk result (λ n. n ≤ length buf.new) }
 {
     let mut n = 0;
     while n < buf.len() {
-        match from.read(&mut buf[n..]) {
-            Ok(0) => break,
-            Ok(more) => n += more,
-            Err(e) => {
-                return Got { n, failed: Some(e) };
-            }
+        let more = from.read(&mut buf[n..])?;
+        if more == 0 {
+            break;
         }
+        n += more;
     }
-    Got { n, failed: None }
+    Ok(n)
 }
 
-// Reads frame i and writes its records.
+// Reads frame i and writes its records: the feed after it, or nothing where it was the last.
 fn feed_one(
     rt: &(impl Print + Eprint),
     from: &mut impl Read,
@@ -61,36 +43,36 @@ fn feed_one(
     input: &mut [u8],
     scratch: &mut [u8],
     out: &mut [u8],
-) -> Turn
+) -> Option<Feed>
     requires { Ready feed i (length input.old) (length scratch.old) (length out.old) }
     ensures { Follows feed result }
 {
-    let got = fill(from, input);
-    let n = got.n;
-    if let Some(e) = got.failed {
-        say_failed(rt, "standard input", e);
-        return Turn::Done;
-    }
+    let n = match fill(from, input) {
+        Ok(n) => n,
+        Err(e) => {
+            say_failed(rt, "standard input", e);
+            return None;
+        }
+    };
     if n == 0 {
-        return Turn::Done;
+        return None;
     }
     let put = frames::put(feed, i, &input[0..n], scratch, out);
     let size = put.bytes;
     if let Err(e) = rt.write_all(&out[0..size]) {
         say_failed(rt, "standard output", e);
-        return Turn::Done;
+        return None;
     }
     if n < input.len() {
-        return Turn::Done;
+        return None;
     }
     let next = put.feed;
-    Turn::More(next)
+    Some(next)
 }
 
-fn say_full() {
-    io::write_all(
-        STDERR_FILENO,
-        b"lapfeed: a capture counts seconds up to 4,294,967,295, and no frame goes in after that\n",
+fn say_full(rt: &impl Eprint) {
+    let _ = eprintln!(rt;
+        "lapfeed: a capture counts seconds up to 4,294,967,295, and no frame goes in after that"
     );
 }
 
@@ -108,17 +90,17 @@ fn feed_all(
 {
     let mut feed = first;
     for i in 0..frames::MOST_FRAMES {
-        let Turn::More(next) = feed_one(rt, from, feed, i, input, scratch, out) else {
+        let Some(next) = feed_one(rt, from, feed, i, input, scratch, out) else {
             return;
         };
         feed = next;
     }
-    say_full();
+    say_full(rt);
 }
 
 fn write_header(rt: &impl Print) -> Result<(), Error> {
     let mut header = [0u8; 24];
-    feed::begin(&mut header);
+    let _ = feed::begin(&mut header);
     rt.write_all(&header)
 }
 
@@ -146,57 +128,48 @@ fn run(rt: &(impl Print + Eprint + Input), setup: Setup)
     );
 }
 
-fn say_wanted() {
-    io::write_all(
-        STDERR_FILENO,
-        b"lapfeed wants four words, CAR:PORT CORE:PORT LINK FRAME-BYTES, as in: lapfeed 10.0.0.1:5000 10.0.0.2:6000 1500 3480 < telemetry > lap.pcap\nor six, with TOS TTL behind these, which are 0 64 without them.\nAn address is four numbers of 0 to 255, a port 0 to 65535, LINK 28 to 65535, FRAME-BYTES 1 to 65507, and TOS and TTL 0 to 255, in decimal and with no leading 0.\n",
+fn say_wanted(rt: &impl Eprint) {
+    let _ = eprintln!(rt;
+        "lapfeed wants four words, CAR:PORT CORE:PORT LINK FRAME-BYTES, as in: lapfeed 10.0.0.1:5000 10.0.0.2:6000 1500 3480 < telemetry > lap.pcap\nor six, with TOS TTL behind these, which are 0 64 without them.\nAn address is four numbers of 0 to 255, a port 0 to 65535, LINK 28 to 65535, FRAME-BYTES 1 to 65507, and TOS and TTL 0 to 255, in decimal and with no leading 0."
     );
 }
 
-// The word of this number at the start of buf, and how long it is: 0 where it is missing or longer than buf.
-fn word(rt: &impl Env, i: usize, buf: &mut [u8]) -> usize
-    ensures { result ≤ length buf.new }
-{
-    rt.arg(i, buf).unwrap_or(0)
-}
-
-// How many words there are, with the program's name.
-fn word_count(rt: &impl Env) -> usize {
-    for i in 0..usize::MAX {
-        if let Err(FillError::NotPresent) = rt.arg(i, &mut [0u8; 1]) {
-            return i;
-        }
+// The bytes of a word; none where it is missing.
+fn bytes(word: &Option<String>) -> &[u8] {
+    match word {
+        Some(w) => w.as_bytes(),
+        None => &[],
     }
-    usize::MAX
 }
 
-// Reads the two words behind the first four, if they are there, and runs what all of them ask for.
-fn start(
-    rt: &(impl Print + Eprint + Input + Env),
-    car: &[u8],
-    core: &[u8],
-    link: &[u8],
-    size: &[u8],
-) {
-    let mut tos = [0u8; words::LONGEST];
-    let mut ttl = [0u8; words::LONGEST];
-    let a = word(rt, 5, &mut tos);
-    let b = word(rt, 6, &mut ttl);
-    let count = word_count(rt);
-    match setup::read_all(count, car, core, link, size, &tos[..a], &ttl[..b]) {
-        Words::Good(setup) => run(rt, setup),
-        Words::Wrong => say_wanted(),
+// Runs what the words ask for, of which there are so many with the program's name.
+fn start(rt: &(impl Print + Eprint + Input), mut args: Args) {
+    let count = args.len();
+    let _name = args.next();
+    let car = args.next();
+    let core = args.next();
+    let link = args.next();
+    let size = args.next();
+    let tos = args.next();
+    let ttl = args.next();
+    let setup = setup::read_all(
+        count,
+        bytes(&car),
+        bytes(&core),
+        bytes(&link),
+        bytes(&size),
+        bytes(&tos),
+        bytes(&ttl),
+    );
+    match setup {
+        Some(setup) => run(rt, setup),
+        None => say_wanted(rt),
     }
 }
 
 fn main(rt: HostRuntime) {
-    let mut car = [0u8; words::LONGEST];
-    let mut core = [0u8; words::LONGEST];
-    let mut link = [0u8; words::LONGEST];
-    let mut size = [0u8; words::LONGEST];
-    let a = word(&rt, 1, &mut car);
-    let b = word(&rt, 2, &mut core);
-    let c = word(&rt, 3, &mut link);
-    let d = word(&rt, 4, &mut size);
-    start(&rt, &car[..a], &core[..b], &link[..c], &size[..d]);
+    match env::args(&rt) {
+        Ok(args) => start(&rt, args),
+        Err(e) => say_failed(&rt, "the words", e),
+    }
 }

@@ -6,7 +6,8 @@ mod refused;
 
 use ezpkt::part::{back, front};
 use ezpkt::{Marks, SocketAddrV4};
-use feed::{Fed, Feed};
+use feed::{Feed, Written};
+use pkt::refusal::Refusal;
 
 const STDOUT_FILENO: i32 = 1;
 
@@ -17,21 +18,19 @@ const CORE: SocketAddrV4 = SocketAddrV4 {
 
 // Byte i is i modulo 251.
 fn fill(out: &mut [u8]) {
-    let mut i = 0;
-    while i < out.len() {
-        out[i] = (i % 251) as u8;
-        i += 1;
+    for (i, b) in out.iter_mut().enumerate() {
+        *b = (i % 251) as u8;
     }
 }
 
 // Writes out what a frame left at the start of a buffer, and answers the feed after it.
-fn show(feed: Feed, fed: Fed, out: &[u8]) -> Feed {
+fn show(feed: Feed, fed: Result<Written, Refusal>, out: &[u8]) -> Feed {
     match fed {
-        Fed::Frame(written) => {
+        Ok(written) => {
             io::write_all(STDOUT_FILENO, front(out, written.bytes));
             written.feed
         }
-        Fed::Refused(_) => feed,
+        Err(_) => feed,
     }
 }
 
@@ -87,7 +86,7 @@ fn marked(bytes: &[u8]) {
 
 fn header() {
     let mut out = [0u8; 24];
-    feed::begin(&mut out);
+    let _ = feed::begin(&mut out);
     io::write_all(STDOUT_FILENO, &out);
 }
 

@@ -1,18 +1,18 @@
 // A refused frame for each bound, one step beyond it, and for each two neighbours in the order of refusals.
-use feed::{Fed, Feed};
+use feed::{Feed, Written};
+use pkt::refusal::Refusal;
 
 // The number that a frame is refused with, or 0.
-fn number(fed: Fed) -> u8 {
+fn number(fed: Result<Written, Refusal>) -> u8 {
     match fed {
-        Fed::Frame(_) => 0,
-        Fed::Refused(n) => n,
+        Ok(_) => 0,
+        Err(refusal) => refusal.number(),
     }
 }
 
 // .. over another link, with room for any frame over a link of 65,535.
 fn over(feed: Feed, link: u32, bytes: &[u8], usec: u32) -> u8 {
-    let mut other = feed;
-    other.link = link;
+    let other = Feed { link, ..feed };
     let mut scratch = [0u8; 65535];
     let mut out = [0u8; 65551];
     number(feed::frame(other, bytes, 7, usec, &mut scratch, &mut out))

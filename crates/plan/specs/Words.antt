@@ -1,7 +1,5 @@
 -- The words that the program takes: BYTES LINK, or BYTES LINK check.
-use Rattle.std.specs.Prelude.{ℕ, ◌+◌, ◌-◌, ◌*◌, Bool, ◌&&◌, cond, not, List, [], ◌∷◌, length, get_or, leb, eqb}
-use Rattle.plan.specs.declared.words.Number.{Number}
-use Rattle.plan.specs.declared.words.Number.TheVariants as number
+use Rattle.std.specs.Prelude.{ℕ, ◌+◌, ◌-◌, ◌*◌, Bool, ◌&&◌, cond, not, Option, Some, None, List, [], ◌∷◌, length, get_or, leb, eqb}
 use Rattle.plan.specs.declared.words.Ask.{Ask}
 use Rattle.plan.specs.declared.words.Ask.TheVariants as ask
 
@@ -13,25 +11,25 @@ abbrev pub is_digit : ℕ → Bool
 is_digit c = leb 48 c && leb c 57
 
 -- the number of one digit
-abbrev pub first_digit : ℕ → Number
-first_digit c = cond (is_digit c) (number.Is (c - 48)) number.Wrong
+abbrev pub first_digit : ℕ → Option ℕ
+first_digit c = cond (is_digit c) (Some (c - 48)) None
 
 -- one digit more behind those of v, which is not 0
-abbrev pub more_digit : ℕ → ℕ → Number
-more_digit v c = cond (not (eqb v 0) && (is_digit c && leb (10 * v + (c - 48)) most_number)) (number.Is (10 * v + (c - 48))) number.Wrong
+abbrev pub more_digit : ℕ → ℕ → Option ℕ
+more_digit v c = cond (not (eqb v 0) && (is_digit c && leb (10 * v + (c - 48)) most_number)) (Some (10 * v + (c - 48))) None
 
-abbrev pub next_digit : Number → ℕ → Number
-next_digit (number.Is v) c = more_digit v c
-next_digit number.Wrong c = number.Wrong
+abbrev pub next_digit : Option ℕ → ℕ → Option ℕ
+next_digit (Some v) c = more_digit v c
+next_digit None c = None
 
 -- these digits behind those of a number
-unfoldable pub digits_from : Number → List ℕ → Number
+unfoldable pub digits_from : Option ℕ → List ℕ → Option ℕ
 digits_from r [] = r
 digits_from r (c ∷ cs) = digits_from (next_digit r c) cs
 
 -- A number's text: at least one digit, and no 0 before another.
-unfoldable pub number_in : List ℕ → Number
-number_in [] = number.Wrong
+unfoldable pub number_in : List ℕ → Option ℕ
+number_in [] = None
 number_in (c ∷ cs) = digits_from (first_digit c) cs
 
 -- the word check
@@ -41,13 +39,13 @@ is_check w =
     && (eqb (get_or w 0 0) 99 && (eqb (get_or w 1 0) 104 && (eqb (get_or w 2 0) 101 && (eqb (get_or w 3 0) 99 && eqb (get_or w 4 0) 107))))
 
 -- what so many words ask for, of which these are the first three
-abbrev pub ask_for : ℕ → ℕ → ℕ → Bool → Ask
-ask_for count n m check = cond (eqb count 2) (ask.List n m) (cond (eqb count 3 && check) (ask.Check n m) ask.Wrong)
+abbrev pub ask_for : ℕ → ℕ → ℕ → Bool → Option Ask
+ask_for count n m check = cond (eqb count 2) (Some (ask.List n m)) (cond (eqb count 3 && check) (Some (ask.Check n m)) None)
 
-abbrev pub ask_of : ℕ → Number → Number → Bool → Ask
-ask_of count (number.Is n) (number.Is m) check = ask_for count n m check
-ask_of count (number.Is n) number.Wrong check = ask.Wrong
-ask_of count number.Wrong m check = ask.Wrong
+abbrev pub ask_of : ℕ → Option ℕ → Option ℕ → Bool → Option Ask
+ask_of count (Some n) (Some m) check = ask_for count n m check
+ask_of count (Some n) None check = None
+ask_of count None m check = None
 
-abbrev pub ask_in : ℕ → List ℕ → List ℕ → List ℕ → Ask
+abbrev pub ask_in : ℕ → List ℕ → List ℕ → List ℕ → Option Ask
 ask_in count n m third = ask_of count (number_in n) (number_in m) (is_check third)

@@ -4,29 +4,18 @@
 mod lines;
 mod words;
 
-ghost use Rattle.std.specs.Prelude.{◌≡◌, ◌≤◌, ◌-◌, length};
+ghost use Rattle.std.specs.Prelude.{◌≡◌, ◌-◌};
 ghost use Rattle.ezpkt.specs.Build.{start_at, end_at};
 
 use ezpkt::ip4;
-use lines::{Place, Reading};
+use lines::{Fault, Place, Reading};
 use pieces::BlockRequest;
-use planner::{Job, Judged, Planned};
-use std::env::FillError;
+use pkt::refusal::Refusal;
+use planner::{Job, Look};
+use std::env;
+use std::env::Args;
 use std::io::{Error, Read};
-use std::rt::Env;
 use words::Ask;
-
-const STDERR_FILENO: i32 = 2;
-
-const STDOUT_FILENO: i32 = 1;
-
-// What a read leads to: another, the end of the input, or none where it failed.
-#[derive(Clone, Copy, Drop)]
-enum Turn {
-    More(Reading),
-    End,
-    Failed,
-}
 
 // Says on standard error what failed, and why.
 fn say_failed(rt: &impl Eprint, what: &str, e: Error) {
@@ -48,182 +37,130 @@ fn print_request(rt: &impl Print, r: BlockRequest, n: usize) -> Result<(), Error
     println!(rt; "{off} {len} {bytes}")
 }
 
-fn print_requests(rt: &(impl Print + Eprint), job: Job) {
+fn print_requests(rt: &impl Print, job: Job) -> Result<(), Error> {
     for k in 0..job.count {
-        if let Err(e) = print_request(rt, planner::nth(job, k), job.n) {
-            say_failed(rt, "standard output", e);
-            return;
+        print_request(rt, planner::nth(job, k), job.n)?;
+    }
+    Ok(())
+}
+
+fn print_refused(rt: &impl Print, refusal: Refusal) -> Result<(), Error> {
+    let number = refusal.number();
+    match refusal {
+        Refusal::TooLong => println!(rt; "refused by {number}: more than 65,515 bytes"),
+        Refusal::NoPlan => println!(rt;
+            "refused by {number}: there is no plan for so many bytes and such a link"
+        ),
+        _ => println!(rt; "refused by {number}"),
+    }
+}
+
+fn list(rt: &impl Print, n: usize, m: usize) -> Result<(), Error> {
+    match planner::decide(n, m, lines::MOST_LINES) {
+        Ok(job) => print_requests(rt, job),
+        Err(refusal) => print_refused(rt, refusal),
+    }
+}
+
+fn print_judged(rt: &impl Print, look: Look) -> Result<(), Error> {
+    match planner::judge(look) {
+        Ok(true) => println!(rt; "yes"),
+        Ok(false) => println!(rt; "no"),
+        Err(refusal) => print_refused(rt, refusal),
+    }
+}
+
+// Says on standard error why the list cannot be read on.
+fn say_fault(rt: &impl Eprint, fault: Fault) {
+    let _ = match fault {
+        Fault::Bad(lines) => {
+            let line = lines.saturating_add(1);
+            eprintln!(rt;
+                "plan: line {line} is no request: a line is an offset, one space, a length and a newline, each number 0 to 65535 in decimal with no leading 0; text behind a second space is passed over"
+            )
         }
-    }
-}
-
-fn say_refused(why: u8) {
-    io::write_all(STDOUT_FILENO, b"refused by ");
-    io::print_decimal(STDOUT_FILENO, why as u64);
-    if why == 1 {
-        io::write_all(STDOUT_FILENO, b": more than 65,515 bytes\n");
-        return;
-    }
-    if why == 21 {
-        io::write_all(
-            STDOUT_FILENO,
-            b": there is no plan for so many bytes and such a link\n",
-        );
-        return;
-    }
-    io::write_all(STDOUT_FILENO, b"\n");
-}
-
-fn list(rt: &(impl Print + Eprint), n: usize, m: usize) {
-    let job = planner::decide(n, m, lines::MOST_LINES);
-    let answer = job.answer;
-    match answer {
-        Planned::Made(_) => print_requests(rt, job),
-        Planned::Refused(why) => say_refused(why),
-    }
-}
-
-fn say_judged(judged: Judged) {
-    match judged {
-        Judged::Yes => {
-            io::write_all(STDOUT_FILENO, b"yes\n");
-        }
-        Judged::No => {
-            io::write_all(STDOUT_FILENO, b"no\n");
-        }
-        Judged::Refused(why) => say_refused(why),
-    }
-}
-
-fn say_many() {
-    io::write_all(STDERR_FILENO, b"plan: the list has more than 8,190 lines\n");
-}
-
-// The number of the line behind so many.
-fn line_behind(lines: usize) -> usize {
-    if lines < lines::MOST_LINES {
-        lines + 1
-    } else {
-        lines::MOST_LINES + 1
-    }
-}
-
-fn say_bad(lines: usize) {
-    io::write_all(STDERR_FILENO, b"plan: line ");
-    io::print_decimal(STDERR_FILENO, line_behind(lines) as u64);
-    io::write_all(
-        STDERR_FILENO,
-        b" is no request: a line is an offset, one space, a length and a newline, each number 0 to 65535 in decimal with no leading 0; text behind a second space is passed over\n",
-    );
+        Fault::Many => eprintln!(rt; "plan: the list has more than 8,190 lines"),
+    };
 }
 
 // The answer where the list ends here.
-fn finish(reading: Reading) {
+fn finish(rt: &(impl Print + Eprint), reading: Reading) -> Result<(), Error> {
     let place = reading.place;
     let look = reading.look;
     match place {
-        Place::Start => say_judged(planner::judge(look)),
-        Place::Whole(_, _) => say_judged(planner::judge(look)),
-        Place::Many => say_many(),
-        _ => say_bad(reading.lines),
-    }
-}
-
-// Whether nothing that follows can make the list good.
-fn is_over(reading: Reading) -> bool {
-    let place = reading.place;
-    match place {
-        Place::Bad => true,
-        Place::Many => true,
-        _ => false,
-    }
-}
-
-fn read_some(rt: &impl Eprint, from: &mut impl Read, reading: Reading) -> Turn {
-    let mut buf = io::buffer();
-    match from.read(&mut buf) {
-        Ok(0) => Turn::End,
-        Ok(n) => Turn::More(lines::read_on(reading, &buf[..n])),
-        Err(e) => {
-            say_failed(rt, "standard input", e);
-            Turn::Failed
+        Place::Start => print_judged(rt, look),
+        Place::Whole(_, _) => print_judged(rt, look),
+        _ => {
+            say_fault(rt, Fault::Bad(reading.lines));
+            Ok(())
         }
     }
-}
-
-fn say_endless() {
-    io::write_all(
-        STDERR_FILENO,
-        b"plan: the list did not end after 18,446,744,073,709,551,615 reads\n",
-    );
 }
 
 // Reads to the end of the list. A loop has to end, and nothing says that the input does: this one stops after more reads than any input takes.
-fn check(rt: &(impl Eprint + Input), n: usize, m: usize) {
+fn check(rt: &(impl Print + Eprint + Input), n: usize, m: usize) -> Result<(), Error> {
     let mut from = rt.reader();
     let mut reading = lines::read_none(n, m);
-    let mut turns: u64 = 0xffffffffffffffff;
-    while turns > 0 {
-        turns -= 1;
-        match read_some(rt, &mut from, reading) {
-            Turn::More(next) => {
-                reading = next;
+    let mut buf = [0u8; 4096];
+    for _ in 0..u64::MAX {
+        let k = match from.read(&mut buf) {
+            Ok(0) => return finish(rt, reading),
+            Ok(k) => k,
+            Err(e) => {
+                say_failed(rt, "standard input", e);
+                return Ok(());
             }
-            Turn::End => {
-                finish(reading);
-                return;
+        };
+        reading = match lines::read_on(reading, &buf[..k]) {
+            Ok(next) => next,
+            Err(fault) => {
+                say_fault(rt, fault);
+                return Ok(());
             }
-            Turn::Failed => {
-                return;
-            }
-        }
-        if is_over(reading) {
-            finish(reading);
-            return;
-        }
+        };
     }
-    say_endless();
+    let _ = eprintln!(rt; "plan: the list did not end after 18,446,744,073,709,551,615 reads");
+    Ok(())
 }
 
-fn say_wanted() {
-    io::write_all(
-        STDERR_FILENO,
-        b"plan wants two words, BYTES LINK, as in: plan 3488 1500\nWith a third word, check, it reads a list of requests: plan 3488 1500 check < list\nA number is 0 to 18446744073709551615, in decimal and with no leading 0.\n",
+fn say_wanted(rt: &impl Eprint) {
+    let _ = eprintln!(rt;
+        "plan wants two words, BYTES LINK, as in: plan 3488 1500\nWith a third word, check, it reads a list of requests: plan 3488 1500 check < list\nA number is 0 to 18446744073709551615, in decimal and with no leading 0."
     );
 }
 
-// The word of this number at the start of buf, and how long it is: 0 where it is missing or longer than buf.
-fn word(rt: &impl Env, i: usize, buf: &mut [u8]) -> usize
-    ensures { result ≤ length buf.new }
-{
-    rt.arg(i, buf).unwrap_or(0)
+// The bytes of a word; none where it is missing.
+fn bytes(word: &Option<String>) -> &[u8] {
+    match word {
+        Some(w) => w.as_bytes(),
+        None => &[],
+    }
 }
 
-// How many words there are, with the program's name.
-fn word_count(rt: &impl Env) -> usize {
-    for i in 0..usize::MAX {
-        if let Err(FillError::NotPresent) = rt.arg(i, &mut [0u8; 1]) {
-            return i;
+// Does what the words ask for.
+fn run(rt: &(impl Print + Eprint + Input), mut args: Args) -> Result<(), Error> {
+    let _name = args.next();
+    let count = args.len();
+    let n = args.next();
+    let m = args.next();
+    let third = args.next();
+    match words::read_words(count, bytes(&n), bytes(&m), bytes(&third)) {
+        Some(Ask::List(n, m)) => list(rt, n, m),
+        Some(Ask::Check(n, m)) => check(rt, n, m),
+        None => {
+            say_wanted(rt);
+            Ok(())
         }
     }
-    usize::MAX
 }
 
 fn main(rt: HostRuntime) {
-    let mut n = [0u8; words::LONGEST];
-    let mut m = [0u8; words::LONGEST];
-    let mut third = [0u8; 5];
-    let a = word(&rt, 1, &mut n);
-    let b = word(&rt, 2, &mut m);
-    let c = word(&rt, 3, &mut third);
-    let count = word_count(&rt);
-    if count < 1 {
-        say_wanted();
-        return;
-    }
-    match words::read_words(count - 1, &n[..a], &m[..b], &third[..c]) {
-        Ask::List(n, m) => list(&rt, n, m),
-        Ask::Check(n, m) => check(&rt, n, m),
-        Ask::Wrong => say_wanted(),
+    match env::args(&rt) {
+        Ok(args) => {
+            if let Err(e) = run(&rt, args) {
+                say_failed(&rt, "standard output", e);
+            }
+        }
+        Err(e) => say_failed(&rt, "the words", e),
     }
 }

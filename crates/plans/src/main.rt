@@ -4,7 +4,8 @@
 
 use ezpkt::ip4;
 use pieces::BlockRequest;
-use planner::{Job, Judged, Look, Planned};
+use pkt::refusal::Refusal;
+use planner::{Job, Look};
 
 const STDOUT_FILENO: i32 = 1;
 
@@ -27,44 +28,39 @@ fn print_request(r: BlockRequest, n: usize) {
 
 fn print_requests(job: Job) {
     for k in 0..job.count {
-        if k < 3 {
-            print_request(planner::nth(job, k), job.n);
-        } else if k == job.count - 1 {
+        if k < 3 || k + 1 == job.count {
             print_request(planner::nth(job, k), job.n);
         }
     }
 }
 
-fn say_refused(why: u8) {
+fn say_refused(refusal: Refusal) {
     say(b"refused by ");
-    number(why as usize);
+    number(refusal.number() as usize);
     say(b"\n");
 }
 
 // The planner's list of n bytes for a link of m.
 fn list(n: usize, m: usize) {
-    let job = planner::decide(n, m, 8190);
     number(n);
     say(b" ");
     number(m);
     say(b": ");
-    let answer = job.answer;
-    match answer {
-        Planned::Made(k) => {
-            number(k);
+    match planner::decide(n, m, 8190) {
+        Ok(job) => {
+            number(job.count);
             say(b"\n");
             print_requests(job);
         }
-        Planned::Refused(why) => say_refused(why),
+        Err(refusal) => say_refused(refusal),
     }
 }
 
 fn say_judged(look: Look) {
-    let judged = planner::judge(look);
-    match judged {
-        Judged::Yes => say(b"yes\n"),
-        Judged::No => say(b"no\n"),
-        Judged::Refused(why) => say_refused(why),
+    match planner::judge(look) {
+        Ok(true) => say(b"yes\n"),
+        Ok(false) => say(b"no\n"),
+        Err(refusal) => say_refused(refusal),
     }
 }
 

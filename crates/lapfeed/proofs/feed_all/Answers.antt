@@ -8,7 +8,7 @@ use Rattle.lapfeed.proofs.feed_all.Goals as goal
 
 pub loop-i-preserved : goal.loop-i-preserved
 loop-i-preserved g c =
-    let on = led_on _ _ _ c.feed_one.ensures c.in-More.is in
+    let on = led_on _ _ _ c.feed_one.ensures c.in-Some.is in
     let id = ap (λ (f : Feed). f.id) on in
     let link = ap (λ (f : Feed). f.link) on in
     (search rules, search rules, search rules, omega arith, omega arith)

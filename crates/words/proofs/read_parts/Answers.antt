@@ -7,7 +7,7 @@ use Rattle.words.proofs.Reading.{and_fails, number_wrong, number_good, number_mo
 use Rattle.words.proofs.read_parts.Goals as goal
 
 pub returns-in_err-a : goal.returns-in_err-a
-returns-in_err-a c = simp (c.from_residual.ensures, number_wrong _ _ _ _ c.read_number.ensures c.in_err-a.was, and_fails)
+returns-in_err-a c = simp (c.from_residual.ensures, number_wrong _ _ _ _ c.read_number.ensures c.in_err-a.was)
 
 pub returns-in_err-b : goal.returns-in_err-b
 returns-in_err-b c = simp (c.from_residual-in_err-b.ensures, number_wrong _ _ _ _ c.read_number-2.ensures c.in_err-b.was, and_fails)

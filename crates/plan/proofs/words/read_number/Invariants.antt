@@ -1,12 +1,9 @@
 -- What is left, behind the digits that were read, is the whole word.
 use mathlib.Core.Path.{◌≡◌}
-use Prim.Native.Nat.{◌-◌}
-use lib.ListN.{length, drop}
+use lib.ListN.{drop}
+use Rattle.std.specs.Prelude.{Some}
 use Rattle.plan.specs.Words.{digits_from, number_in}
 use Rattle.plan.proofs.words.read_number.Given as goal
 
-abbrev pub invariant-loop-i : goal.invariant-loop-i
-invariant-loop-i l = (l.i-end ≡ length l.w) × (digits_from l.number (drop l.i l.w) ≡ number_in l.w)
-
-abbrev pub decreases-loop-i : goal.decreases-loop-i
-decreases-loop-i l = l.i-end - l.i
+abbrev pub invariant-loop-c : goal.invariant-loop-c
+invariant-loop-c l = digits_from (Some l.number) (drop l.c-index l.rest) ≡ number_in l.w
