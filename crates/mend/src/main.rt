@@ -2,10 +2,12 @@
 // standard error.
 #![tactic(auto)]
 
-ghost use Rattle.std.specs.Prelude.{◌≤◌, length};
+ghost use Rattle.std.specs.Prelude.{◌≤◌, length, IfOk};
 
 use pkt::refusal::{ListRefusal, Refusal};
+use std::alloc::AllocError;
 use std::env::FillError;
+use std::fmt::Display;
 use std::io::{Error, Read};
 use std::rt::Env;
 
@@ -16,33 +18,23 @@ const MOST: usize = 65536;
 // least 28, the IPv4 header's 20 and 8 of its transport: there are at most 65,512 / 44 = 1,488 of them. Each has at most two changes: 2,976.
 const MOST_CHANGES: usize = 2 * ((MOST - 24) / (16 + 28));
 
-// What was read: n bytes, and why reading failed, if it did.
-#[derive(Clone, Copy, Drop)]
-struct Got {
-    n: usize,
-    failed: Option<Error>,
-}
-
 // Says on standard error what failed, and why.
-fn say_failed(rt: &impl Eprint, what: &str, e: Error) {
+fn say_failed(rt: &impl Eprint, what: &str, e: impl Display + Drop) {
     let _ = eprintln!(rt; "mend: {what}: {e}");
 }
 
-// Reads until the buffer is full or the input ends.
-fn fill(from: &mut impl Read, buf: &mut [u8]) -> Got
-    ensures { result.n ≤ length buf.new }
+// Reads until the buffer is full or the input ends, and answers how many bytes that were.
+fn fill(from: &mut impl Read, buf: &mut [u8]) -> Result<usize, Error>
+    ensures { IfOk result (λ n. n ≤ length buf.new) }
 {
     let mut n = 0;
     while n < buf.len() {
-        match from.read(&mut buf[n..]) {
-            Ok(0) => break,
-            Ok(more) => n += more,
-            Err(e) => {
-                return Got { n, failed: Some(e) };
-            }
+        match from.read(&mut buf[n..])? {
+            0 => break,
+            more => n += more,
         }
     }
-    Got { n, failed: None }
+    Ok(n)
 }
 
 // Which checksum.
@@ -102,14 +94,32 @@ fn write(rt: &(impl Print + Eprint), capture: &[u8], changes: &[[usize; 4]]) {
     }
 }
 
-// Mends a capture, or says why not.
-fn run(rt: &(impl Print + Eprint), capture: &[u8]) {
-    let mut out = [0u8; MOST];
-    let mut rows = [[0usize; 4]; MOST_CHANGES];
-    match mending::mend(capture, &mut out, &mut rows) {
+// Mends a capture into out, its changes into rows, or says why not.
+fn mend_into(rt: &(impl Print + Eprint), capture: &[u8], out: &mut [u8], rows: &mut [[usize; 4]]) {
+    match mending::mend(capture, out, rows) {
         Ok(counts) => write(rt, &out[0..counts.bytes], &rows[0..counts.changed]),
         Err(refused) => say_refused(rt, refused),
     }
+}
+
+fn mend(rt: &(impl Print + Eprint + AllocGlobal), capture: &[u8]) -> Result<(), AllocError> {
+    let mut out = vec![in rt.alloc(); 0u8; MOST]?;
+    let mut rows = vec![in rt.alloc(); [0usize; 4]; MOST_CHANGES]?;
+    mend_into(rt, capture, &mut out, &mut rows);
+    Ok(())
+}
+
+// Reads a capture, and mends it; a byte more than the longest has shows that there is more.
+fn run(rt: &(impl Print + Eprint + Input + AllocGlobal)) -> Result<(), AllocError> {
+    let mut input = vec![in rt.alloc(); 0u8; MOST + 1]?;
+    match fill(&mut rt.reader(), &mut input) {
+        Err(e) => say_failed(rt, "standard input", e),
+        Ok(n) if MOST < n => {
+            let _ = rt.eprintln("mend: more than 65,536 bytes of input");
+        }
+        Ok(n) => mend(rt, &input[0..n])?,
+    }
+    Ok(())
 }
 
 // Whether there are words behind the program's name.
@@ -117,22 +127,12 @@ fn has_words(rt: &impl Env) -> bool {
     !matches!(rt.arg(1, &mut [0u8; 1]), Err(FillError::NotPresent))
 }
 
-// Reads a capture; a byte more than the longest has shows that there is more.
 fn main(rt: HostRuntime) {
     if has_words(&rt) {
         let _ = rt.eprintln("mend wants no words, as in: mend < old.pcap > new.pcap");
         return;
     }
-    let mut input = [0u8; MOST + 1];
-    let got = fill(&mut rt.stdin(), &mut input);
-    let n = got.n;
-    if let Some(e) = got.failed {
-        say_failed(&rt, "standard input", e);
-        return;
+    if let Err(e) = run(&rt) {
+        say_failed(&rt, "memory", e);
     }
-    if MOST < n {
-        let _ = rt.eprintln("mend: more than 65,536 bytes of input");
-        return;
-    }
-    run(&rt, &input[0..n]);
 }
