@@ -87,13 +87,6 @@ frame_end l h b e = rw (framed l h e).is (omega (arith, field_below 2 2 l b))
 pub read_end : (l : List ℕ) (h : IpRead) → Bytes l → read_answer l ≡ gives h → h.end ≤ 65535
 read_end l h b e = frame_end l h b (was_read l h e).0
 
--- a step of reading: what is framed is seen exactly if its header verifies
-pub read_step : (l : List ℕ) (h : IpRead) (t : Bool) → frame_answer l ≡ gives h → t ≡ verifies (take (h.start - 0) l)
-    → cond t (gives h) (refused 7) ≡ and_then (frame_answer l) (summed l)
-read_step l h t e v =
-    let z : h.start - 0 ≡ h.start = omega arith in
-    sym (ap (λ (a : Answer IpRead). and_then a (summed l)) e ∙ ap (λ (s : Bool). cond s (gives h) (refused 7)) (ap (λ (k : ℕ). verifies (take k l)) (sym z) ∙ sym v))
-
 -- ---- bytes behind the packet
 
 -- The header's fields stand in the first 20 bytes.

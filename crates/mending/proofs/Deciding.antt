@@ -173,11 +173,6 @@ module _ (l : List ℕ) (found : Result ℕ ListRefusal) (o₀ : List ℕ) (e₀
   pub pass_refused : (r : ListRefusal) → found ≡ Err r → Mends l o e (Err r) (o₀ ++ o) (e₀ ++ e)
   pass_refused r is = refused_all r (answered_refused l found o₀ e₀ first r o e is)
 
-  -- and so does one for want of room.
-  pub room_refused : (k : ℕ) (r : ListRefusal) → found ≡ Ok k → list_says (Err r) ≡ room_answer (length l) k (length (o₀ ++ o)) (length (e₀ ++ e))
-      → Mends l o e (Err r) (o₀ ++ o) (e₀ ++ e)
-  room_refused k r is q = refused_all r (answered l found o₀ e₀ first k (Err r) o e is q)
-
   -- Else there is room for both, and the second pass, over a copy, leaves what is owed.
   pub mends_accepted : (k : ℕ) (c : Counts) (x o' : List ℕ) (e' : List (List ℕ)) (again : Result ℕ ListRefusal) → found ≡ Ok k
       → list_says (Ok c) ≡ room_answer (length l) k (length (o₀ ++ o)) (length (e₀ ++ e)) → Bytes l

@@ -80,11 +80,7 @@ found_asks l s c fs b fits asks e =
     (sums_ask (sums_in p) p s.start c (packets_mended.within p (take_bytes s.len (drop s.start l) (drop_bytes s.start l b)))
     (omega (arith, asks.within)) (omega (arith, asks.within, asks.few, sums_few p)))
 
--- the first of them, and the second behind no more than one change
-pub first_asks : (f : SumField) (fs : List SumField) (start c : ℕ) → SumsAsk (f ∷ fs) start c → SumsAsk (f ∷ []) start c
-unfolding SumsAsk
-first_asks f fs start c h = (h.0, h.1, tt)
-
+-- the second of them, behind no more than one change
 pub second_asks : (f g : SumField) (k which start c c' : ℕ) → c' ≡ c + length (changes_of (listed k which start (f ∷ []))) → SumsAsk (f ∷ g ∷ []) start c
     → SumsAsk (g ∷ []) start c'
 unfolding SumsAsk

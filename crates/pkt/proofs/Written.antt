@@ -43,13 +43,3 @@ pub written_behind : (a b₀ b d d₁ e : List ℕ) (n : ℕ) → length a ≡ n
     → e ≡ written b₀ (mid_of n (length d₁ - n) d₁) → put_mid n (length d₁ - n) d₁ e ≡ written (a ++ b) d
 written_behind a b₀ b d d₁ e n h h₁ hb he =
     rw (he, hb, mid_tail n d₁, post_tail n d₁, append-nil, h₁) (written_then a b d n h)
-
-copy_suc : (s d : List ℕ) (i : ℕ) → i < length s → i < length d → set (take i s ++ drop i d) i (get_or s i 0) ≡ take (suc i) s ++ drop (suc i) d
-copy_suc [] d i hs hd = absurd (omega arith)
-copy_suc (x ∷ s) [] i hs hd = absurd (omega arith)
-copy_suc (x ∷ s) (y ∷ d) zero hs hd = refl
-copy_suc (x ∷ s) (y ∷ d) (suc i) hs hd = ap (λ (l : List ℕ). x ∷ l) (copy_suc s d i (le_of_suc-le-suc hs) (le_of_suc-le-suc hd))
-
--- a turn of a loop that copies byte by byte
-pub copy_step : (s d : List ℕ) (i : ℕ) → i < length s → i < length d → set (take i s ++ drop i d) i (get_or s i 0) ≡ take (i + 1) s ++ drop (i + 1) d
-copy_step s d i hs hd = rw add-one (copy_suc s d i hs hd)

@@ -363,7 +363,8 @@ pub fn nonzero(csum: u16) -> u16
     if csum == 0 { 0xffff } else { csum }
 }
 
-// The checksum of a UDP datagram between two addresses.
+// The checksum of a UDP datagram between two addresses. No generic function with TCP's: the header, the protocol, the limit and what is sent for 0 all differ, and
+// a trait that says them would be longer than both.
 pub fn udp_csum(saddr: u32, daddr: u32, h: udp_hdr, payload: &[u8]) -> Result<u16, Refusal>
     ensures { says result ≡ udp_answer saddr daddr h payload.now }
 {

@@ -17,7 +17,7 @@ pub const COMPLETE: u8 = 2;
 // Two pieces contradict each other.
 pub const SPOILT: u8 = 3;
 
-// What is kept of an assembly beside its payload buffer and its map. Where known is false, total does not count.
+// What is kept of an assembly beside its payload buffer and its map. Where known is false, total does not count: C has no Option.
 #[repr(C)]
 #[derive(Clone, Copy, Drop)]
 pub struct wb_assembly {

@@ -21,7 +21,7 @@ pub struct wb_tcp_sent {
     pub third: usize,
 }
 
-// A sequence number for one side, or, where is_set is false, nothing for it.
+// A sequence number for one side, or, where is_set is false, nothing for it: C has no Option.
 #[repr(C)]
 #[derive(Clone, Copy, Drop)]
 pub struct wb_seq {

@@ -9,7 +9,7 @@ use crate::lengths::wb_length;
 use ezpkt::udp4::{Choices, UdpFlow};
 use ezpkt::{Marks, SocketAddrV4};
 
-// The choices that go with a datagram. Where other_source is false, srcip does not count.
+// The choices that go with a datagram. Where other_source is false, srcip does not count: C has no Option.
 #[repr(C)]
 #[derive(Clone, Copy, Drop)]
 pub struct wb_choices {
