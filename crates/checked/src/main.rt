@@ -6,92 +6,110 @@ mod options;
 mod shown;
 
 use shown::show;
+use std::io;
 
-fn headers() {
-    show(b"fewer than 20 bytes", b"");
+fn headers(rt: &impl Print) -> io::Result<()> {
+    show(rt, "fewer than 20 bytes", b"")?;
     show(
-        b"version is not 4",
+        rt,
+        "version is not 4",
         b"\x55\x00\x00\x14\x00\x00\x00\x00\x00\x00\x00\x00\x00\x00\x00\x00\x00\x00\x00\x00",
-    );
+    )?;
     show(
-        b"header under 5 words",
+        rt,
+        "header under 5 words",
         b"\x44\x00\x00\x14\x00\x00\x00\x00\x00\x00\x00\x00\x00\x00\x00\x00\x00\x00\x00\x00",
-    );
+    )?;
     show(
-        b"total length below 20",
+        rt,
+        "total length below 20",
         b"\x45\x00\x00\x13\x00\x00\x00\x00\x00\x00\x00\x00\x00\x00\x00\x00\x00\x00\x00\x00",
-    );
+    )?;
     show(
-        b"fewer than the total length",
+        rt,
+        "fewer than the total length",
         b"\x45\x00\x00\x15\x00\x00\x00\x00\x00\x00\x00\x00\x00\x00\x00\x00\x00\x00\x00\x00",
-    );
+    )?;
     show(
-        b"IPv4 header checksum does not verify",
+        rt,
+        "IPv4 header checksum does not verify",
         b"\x45\x00\x00\x14\x00\x00\x00\x00\x00\x00\x00\x00\x00\x00\x00\x00\x00\x00\x00\x00",
-    );
+    )
 }
 
-fn reserved() {
+fn reserved(rt: &impl Print) -> io::Result<()> {
     show(
-        b"reserved bit set, and the header checksum does not verify",
+        rt,
+        "reserved bit set, and the header checksum does not verify",
         b"\x45\x00\x00\x14\x00\x00\x80\x00\x00\x00\x00\x00\x00\x00\x00\x00\x00\x00\x00\x00",
-    );
+    )?;
     show(
-        b"reserved bit set",
+        rt,
+        "reserved bit set",
         b"\x45\x00\x00\x14\x00\x00\x80\x00\x00\x00\x3a\xeb\x00\x00\x00\x00\x00\x00\x00\x00",
-    );
+    )?;
     show(
-        b"reserved bit set, and offset not 0",
+        rt,
+        "reserved bit set, and offset not 0",
         b"\x45\x00\x00\x14\x00\x00\x80\x01\x00\x00\x3a\xea\x00\x00\x00\x00\x00\x00\x00\x00",
-    );
+    )?;
     show(
-        b"DF set, and protocol is not 1, 6 or 17",
+        rt,
+        "DF set, and protocol is not 1, 6 or 17",
         b"\x45\x00\x00\x14\x00\x00\x40\x00\x00\x00\x7a\xeb\x00\x00\x00\x00\x00\x00\x00\x00",
-    );
+    )
 }
 
-fn kinds() {
+fn kinds(rt: &impl Print) -> io::Result<()> {
     show(
-        b"MF set",
+        rt,
+        "MF set",
         b"\x45\x00\x00\x14\x00\x00\x20\x00\x00\x00\x9a\xeb\x00\x00\x00\x00\x00\x00\x00\x00",
-    );
+    )?;
     show(
-        b"offset not 0",
+        rt,
+        "offset not 0",
         b"\x45\x00\x00\x14\x00\x00\x00\x01\x00\x00\xba\xea\x00\x00\x00\x00\x00\x00\x00\x00",
-    );
+    )?;
     show(
-        b"protocol is not 1, 6 or 17",
+        rt,
+        "protocol is not 1, 6 or 17",
         b"\x45\x00\x00\x14\x00\x00\x00\x00\x00\x00\xba\xeb\x00\x00\x00\x00\x00\x00\x00\x00",
-    );
+    )?;
     show(
-        b"transport part under 8 bytes",
+        rt,
+        "transport part under 8 bytes",
         b"\x45\x00\x00\x14\x00\x00\x00\x00\x00\x01\xba\xea\x00\x00\x00\x00\x00\x00\x00\x00",
-    );
+    )
 }
 
-fn sums() {
+fn sums(rt: &impl Print) -> io::Result<()> {
     show(
-        b"transport checksum does not verify",
+        rt,
+        "transport checksum does not verify",
         b"\x45\x00\x00\x1c\x00\x00\x00\x00\x00\x01\xba\xe2\x00\x00\x00\x00\x00\x00\x00\x00\x00\x00\x00\x00\x00\x00\x00\x00",
-    );
+    )?;
     show(
-        b"ICMP that verifies",
+        rt,
+        "ICMP that verifies",
         b"\x45\x00\x00\x1c\x00\x00\x00\x00\x00\x01\xba\xe2\x00\x00\x00\x00\x00\x00\x00\x00\x00\x00\xff\xff\x00\x00\x00\x00",
-    );
+    )?;
     show(
-        b"UDP field 0",
+        rt,
+        "UDP field 0",
         b"\x45\x00\x00\x1c\x00\x00\x00\x00\x00\x11\xba\xd2\x00\x00\x00\x00\x00\x00\x00\x00\x00\x00\x00\x00\x00\x08\x00\x00",
-    );
+    )?;
     show(
-        b"the same with a byte after the total length",
+        rt,
+        "the same with a byte after the total length",
         b"\x45\x00\x00\x1c\x00\x00\x00\x00\x00\x11\xba\xd2\x00\x00\x00\x00\x00\x00\x00\x00\x00\x00\x00\x00\x00\x08\x00\x00\xff",
-    );
+    )
 }
 
-fn main() {
-    headers();
-    reserved();
-    kinds();
-    sums();
-    options::each();
+fn main(rt: HostRuntime) -> io::Result<()> {
+    headers(&rt)?;
+    reserved(&rt)?;
+    kinds(&rt)?;
+    sums(&rt)?;
+    options::each(&rt)
 }

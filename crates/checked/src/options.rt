@@ -1,8 +1,9 @@
 // Packets with IPv4 options, and first bytes.
-use crate::shown::{STDOUT_FILENO, say, show};
+use crate::shown::show;
 use inspect::check;
 use pkt::copying::copy;
 use pkt::refusal::Refusal;
+use std::io;
 
 // Whether 5 is not what a packet of 20 bytes is refused by, if this is its first byte and the others are zero.
 fn is_ipv4(first: u8) -> bool {
@@ -11,147 +12,157 @@ fn is_ipv4(first: u8) -> bool {
     check::check(&packet) != Err(Refusal::NotIpv4)
 }
 
-// Such a first byte.
-fn say_first(first: u8) {
-    if is_ipv4(first) {
-        say(b" 0x");
-        io::print_hex(STDOUT_FILENO, first as u64, 2);
-    }
-}
-
-// All of them.
-fn firsts() {
-    say(b"first bytes that 5 is not given for:");
+// All such first bytes.
+fn firsts(rt: &impl Print) -> io::Result<()> {
+    print!(rt; "first bytes that 5 is not given for:")?;
     for first in 0..=255 {
-        say_first(first);
+        if is_ipv4(first) {
+            print!(rt; " 0x{first:02x}")?;
+        }
     }
-    say(b"\n");
+    println!(rt; "")
 }
 
 // Total lengths under the header's, where the options are not there.
-fn totals() {
+fn totals(rt: &impl Print) -> io::Result<()> {
     show(
-        b"total length below a header of 24 bytes",
+        rt,
+        "total length below a header of 24 bytes",
         b"\x46\x00\x00\x17\x00\x00\x00\x00\x00\x00\x00\x00\x00\x00\x00\x00\x00\x00\x00\x00",
-    );
+    )?;
     show(
-        b"total length below a header of 60 bytes",
+        rt,
+        "total length below a header of 60 bytes",
         b"\x4f\x00\x00\x3b\x00\x00\x00\x00\x00\x00\x00\x00\x00\x00\x00\x00\x00\x00\x00\x00",
-    );
+    )
 }
 
 // A header of 24 bytes and no data, whole and without its last bytes.
-fn cut() {
+fn cut(rt: &impl Print) -> io::Result<()> {
     let whole =
         *b"\x46\x00\x00\x18\x00\x00\x00\x00\x40\x01\xd1\xde\x0a\x00\x00\x01\x0a\x00\x00\x02\x94\x04\x00\x00";
-    show(b"router alert, fewer than the header", &whole[0..20]);
-    show(b"router alert, fewer than the header", &whole[0..21]);
-    show(b"router alert, fewer than the header", &whole[0..22]);
-    show(b"router alert, fewer than the header", &whole[0..23]);
-    show(b"router alert and no data", &whole);
+    show(rt, "router alert, fewer than the header", &whole[0..20])?;
+    show(rt, "router alert, fewer than the header", &whole[0..21])?;
+    show(rt, "router alert, fewer than the header", &whole[0..22])?;
+    show(rt, "router alert, fewer than the header", &whole[0..23])?;
+    show(rt, "router alert and no data", &whole)
 }
 
-// Bytes at a place, where there is room for them.
+// Bytes at a place, as far as there is room for them.
 fn put_bytes(bytes: &[u8], at: usize, out: &mut [u8]) {
-    if at <= out.len() {
-        let rest = &mut out[at..];
-        if bytes.len() <= rest.len() {
-            copy(bytes, rest);
-        }
+    if let Some(rest) = out.get_mut(at..) {
+        copy(bytes, rest);
     }
 }
 
 // Router alert and an ICMP echo, with other bytes at a place.
-fn echo(words: &[u8], at: usize, bytes: &[u8]) {
+fn echo(rt: &impl Print, words: &str, at: usize, bytes: &[u8]) -> io::Result<()> {
     let mut packet =
         *b"\x46\x00\x00\x20\x00\x00\x00\x00\x40\x01\xd1\xd6\x0a\x00\x00\x01\x0a\x00\x00\x02\x94\x04\x00\x00\x08\x00\xe5\xcb\x12\x34\x00\x00";
     put_bytes(bytes, at, &mut packet);
-    show(words, &packet);
+    show(rt, words, &packet)
 }
 
 // .. with the header's checksum wrong, and right.
-fn echoes() {
-    echo(b"router alert and ICMP", 0, b"");
-    echo(b"with another byte in the option", 23, b"\x01");
-    echo(b"with the checksum of the first 20 bytes", 10, b"\x65\xdb");
-    echo(b"with the reserved bit set", 6, b"\x80\x00\x40\x01\x51\xd6");
-    echo(b"with MF set", 6, b"\x20\x00\x40\x01\xb1\xd6");
-    echo(b"of protocol 2", 9, b"\x02\xd1\xd5");
+fn echoes(rt: &impl Print) -> io::Result<()> {
+    echo(rt, "router alert and ICMP", 0, b"")?;
+    echo(rt, "with another byte in the option", 23, b"\x01")?;
     echo(
-        b"with total length 23",
+        rt,
+        "with the checksum of the first 20 bytes",
+        10,
+        b"\x65\xdb",
+    )?;
+    echo(
+        rt,
+        "with the reserved bit set",
+        6,
+        b"\x80\x00\x40\x01\x51\xd6",
+    )?;
+    echo(rt, "with MF set", 6, b"\x20\x00\x40\x01\xb1\xd6")?;
+    echo(rt, "of protocol 2", 9, b"\x02\xd1\xd5")?;
+    echo(
+        rt,
+        "with total length 23",
         2,
         b"\x00\x17\x00\x00\x00\x00\x40\x01\xd1\xdf",
-    );
+    )?;
     echo(
-        b"with total length 31",
+        rt,
+        "with total length 31",
         2,
         b"\x00\x1f\x00\x00\x00\x00\x40\x01\xd1\xd7",
-    );
-    echo(b"with another byte in the echo", 31, b"\x01");
+    )?;
+    echo(rt, "with another byte in the echo", 31, b"\x01")
 }
 
 // Router alert and a UDP datagram, with other bytes at a place.
-fn lap(words: &[u8], at: usize, bytes: &[u8]) {
+fn lap(rt: &impl Print, words: &str, at: usize, bytes: &[u8]) -> io::Result<()> {
     let mut packet =
         *b"\x46\x00\x00\x24\x00\x00\x00\x00\x40\x11\xd1\xc2\x0a\x00\x00\x01\x0a\x00\x00\x02\x94\x04\x00\x00\x9c\x40\x00\x50\x00\x0c\x72\xc0\x6c\x61\x70\x21";
     put_bytes(bytes, at, &mut packet);
-    show(words, &packet);
+    show(rt, words, &packet)
 }
 
 // .. with its field 0 and its length another.
-fn laps() {
-    lap(b"router alert and UDP", 0, b"");
-    lap(b"with another byte in the datagram", 35, b"?");
-    lap(b"with field 0", 30, b"\x00\x00");
+fn laps(rt: &impl Print) -> io::Result<()> {
+    lap(rt, "router alert and UDP", 0, b"")?;
+    lap(rt, "with another byte in the datagram", 35, b"?")?;
+    lap(rt, "with field 0", 30, b"\x00\x00")?;
     lap(
-        b"with a length that counts the option",
+        rt,
+        "with a length that counts the option",
         28,
         b"\x00\x10\x72\xbc",
-    );
+    )
 }
 
 // 40 bytes of options, a TCP segment and a byte after the total length, with other bytes at a place.
-fn segment(words: &[u8], at: usize, bytes: &[u8]) {
+fn segment(rt: &impl Print, words: &str, at: usize, bytes: &[u8]) -> io::Result<()> {
     let mut packet =
         *b"\x4f\x00\x00\x54\x00\x00\x00\x00\x40\x06\x65\x57\x0a\x00\x00\x01\x0a\x00\x00\x02\x01\x07\x27\x28\xc0\xa8\x01\x01\xc0\xa8\x01\x02\xc0\xa8\x01\x03\xc0\xa8\x01\x04\xc0\xa8\x01\x05\xc0\xa8\x01\x06\xc0\xa8\x01\x07\xc0\xa8\x01\x08\xc0\xa8\x01\x09\x9c\x40\x00\x50\x00\x00\x03\xe8\x00\x00\x00\x00\x50\x18\xff\xff\x1e\xcb\x00\x00\x6c\x61\x70\x21\xff";
     put_bytes(bytes, at, &mut packet);
-    show(words, &packet);
+    show(rt, words, &packet)
 }
 
 // .. with total lengths that cut the segment, leave it out, and cut the options.
-fn segments() {
-    segment(b"40 bytes of options and TCP, a byte after it", 0, b"");
-    segment(b"with another last byte in the options", 59, b"\x0a");
-    segment(b"with another first byte in the segment", 60, b"\x9d");
-    segment(b"with another last byte in the segment", 83, b"?");
+fn segments(rt: &impl Print) -> io::Result<()> {
+    segment(rt, "40 bytes of options and TCP, a byte after it", 0, b"")?;
+    segment(rt, "with another last byte in the options", 59, b"\x0a")?;
+    segment(rt, "with another first byte in the segment", 60, b"\x9d")?;
+    segment(rt, "with another last byte in the segment", 83, b"?")?;
     segment(
-        b"with total length 86",
+        rt,
+        "with total length 86",
         2,
         b"\x00\x56\x00\x00\x00\x00\x40\x06\x65\x55",
-    );
+    )?;
     segment(
-        b"with total length 79",
+        rt,
+        "with total length 79",
         2,
         b"\x00\x4f\x00\x00\x00\x00\x40\x06\x65\x5c",
-    );
+    )?;
     segment(
-        b"with total length 60",
+        rt,
+        "with total length 60",
         2,
         b"\x00\x3c\x00\x00\x00\x00\x40\x06\x65\x6f",
-    );
+    )?;
     segment(
-        b"with total length 59",
+        rt,
+        "with total length 59",
         2,
         b"\x00\x3b\x00\x00\x00\x00\x40\x06\x65\x70",
-    );
+    )
 }
 
 // All of them.
-pub(crate) fn each() {
-    firsts();
-    totals();
-    cut();
-    echoes();
-    laps();
-    segments();
+pub(crate) fn each(rt: &impl Print) -> io::Result<()> {
+    firsts(rt)?;
+    totals(rt)?;
+    cut(rt)?;
+    echoes(rt)?;
+    laps(rt)?;
+    segments(rt)
 }

@@ -1,43 +1,28 @@
-// What is written: words, numbers and answers.
+// What is written of the answers.
 use assembly::Outcome;
 use pkt::refusal::Refusal;
+use std::io;
 
-const STDOUT_FILENO: i32 = 1;
-
-pub(crate) fn say(words: &[u8]) {
-    io::write_all(STDOUT_FILENO, words);
+pub(crate) fn show_refused(rt: &impl Print, refusal: Refusal) -> io::Result<()> {
+    print!(rt; " refused {}", refusal.number())
 }
 
-pub(crate) fn say_number(n: u64) {
-    say(b" ");
-    io::print_decimal(STDOUT_FILENO, n);
-}
-
-pub(crate) fn say_refused(refusal: Refusal) {
-    say(b" refused");
-    say_number(refusal.number() as u64);
-}
-
-pub(crate) fn say_stepped(answer: Result<Outcome, Refusal>) {
+pub(crate) fn show_stepped(rt: &impl Print, answer: Result<Outcome, Refusal>) -> io::Result<()> {
     match answer {
-        Ok(Outcome::Waiting) => say(b" waiting"),
-        Ok(Outcome::Complete) => say(b" complete"),
-        Ok(Outcome::Spoilt) => say(b" spoilt"),
-        Err(refusal) => say_refused(refusal),
+        Ok(Outcome::Waiting) => print!(rt; " waiting"),
+        Ok(Outcome::Complete) => print!(rt; " complete"),
+        Ok(Outcome::Spoilt) => print!(rt; " spoilt"),
+        Err(refusal) => show_refused(rt, refusal),
     }
 }
 
-pub(crate) fn say_gone(answer: Result<(), Refusal>) {
+pub(crate) fn show_gone(rt: &impl Print, answer: Result<(), Refusal>) -> io::Result<()> {
     match answer {
-        Ok(()) => say(b" done"),
-        Err(refusal) => say_refused(refusal),
+        Ok(()) => print!(rt; " done"),
+        Err(refusal) => show_refused(rt, refusal),
     }
 }
 
-pub(crate) fn say_yes(yes: bool) {
-    if yes {
-        say(b" yes");
-    } else {
-        say(b" no");
-    }
+pub(crate) fn yes(b: bool) -> &'static str {
+    if b { "yes" } else { "no" }
 }

@@ -8,39 +8,28 @@ use ezpkt::build::{IcmpEcho, Request, TcpSegment, UdpDatagram};
 use ezpkt::ip4::Template;
 use ezpkt::{Marks, build, ip4, part};
 use pkt::refusal::Refusal;
-
-const STDOUT_FILENO: i32 = 1;
+use std::io;
 
 const CLIENT: u32 = 0x0a000001;
 
 const SERVER: u32 = 0x0a000002;
 
-fn say(words: &[u8]) {
-    io::write_all(STDOUT_FILENO, words);
-}
-
-fn say_number(n: u64) {
-    say(b" ");
-    io::print_decimal(STDOUT_FILENO, n);
-}
-
-fn say_refused(refusal: Refusal) {
-    say(b" refused");
-    say_number(refusal.number() as u64);
-}
-
-fn say_outcome(outcome: Outcome) {
+fn show_outcome(rt: &impl Print, outcome: Outcome) -> io::Result<()> {
     match outcome {
-        Outcome::Waiting => say(b" waiting"),
-        Outcome::Complete => say(b" complete"),
-        Outcome::Spoilt => say(b" spoilt"),
+        Outcome::Waiting => print!(rt; " waiting"),
+        Outcome::Complete => print!(rt; " complete"),
+        Outcome::Spoilt => print!(rt; " spoilt"),
     }
 }
 
-fn say_taken(taken: Result<Taken, Refusal>) {
+fn show_refused(rt: &impl Print, refusal: Refusal) -> io::Result<()> {
+    print!(rt; " refused {}", refusal.number())
+}
+
+fn show_taken(rt: &impl Print, taken: Result<Taken, Refusal>) -> io::Result<()> {
     match taken {
-        Ok(taken) => say_outcome(taken.answer),
-        Err(refusal) => say_refused(refusal),
+        Ok(taken) => show_outcome(rt, taken.answer),
+        Err(refusal) => show_refused(rt, refusal),
     }
 }
 
@@ -53,13 +42,16 @@ fn kept(rec: Rec, taken: Result<Taken, Refusal>) -> Rec {
 }
 
 // A complete datagram: as many of the payload buffer's first bytes as `progress` answers.
-fn say_held(progress: Result<Progress, Refusal>, payload: &[u8]) {
+fn show_held(
+    rt: &impl Print,
+    progress: Result<Progress, Refusal>,
+    payload: &[u8],
+) -> io::Result<()> {
     if let Ok(Progress::Complete(n)) = progress {
-        if n <= payload.len() {
-            say(b", holds ");
-            say(&payload[0..n]);
-        }
+        print!(rt; ", holds ")?;
+        rt.write_all(part::front(payload, n))?;
     }
+    Ok(())
 }
 
 fn key_of(protocol: u8) -> Key {
@@ -94,54 +86,56 @@ fn template() -> Template {
 }
 
 // Builds piece (off, 1) of twenty bytes and hands it in, with what stands behind it in its buffer.
-fn hand(rec: Rec, off: u16, payload: &mut [u8], map: &mut [u8]) -> Rec {
+fn hand(
+    rt: &impl Print,
+    rec: Rec,
+    off: u16,
+    payload: &mut [u8],
+    map: &mut [u8],
+) -> io::Result<Rec> {
     let mut out = [0u8; 40];
     let _ = ip4::fragment(template(), b"01234567890123456789", off, 1, &mut out);
     let taken = assembly::take(rec, &out, payload, map);
-    say_taken(taken);
-    kept(rec, taken)
+    show_taken(rt, taken)?;
+    Ok(kept(rec, taken))
 }
 
 // Three pieces of twenty bytes, and what is held then.
-fn order(a: u16, b: u16, c: u16) {
+fn order(rt: &impl Print, a: u16, b: u16, c: u16) -> io::Result<()> {
     let mut payload = [0u8; 65515];
     let mut map = [0u8; 1024];
-    say(b"blocks");
-    say_number(a as u64);
-    say_number(b as u64);
-    say_number(c as u64);
-    say(b":");
+    print!(rt; "blocks {a} {b} {c}:")?;
     match assembly::open(key(), &mut payload, &mut map) {
-        Err(refusal) => say_refused(refusal),
+        Err(refusal) => show_refused(rt, refusal)?,
         Ok(rec) => {
-            let one = hand(rec, a, &mut payload, &mut map);
-            let two = hand(one, b, &mut payload, &mut map);
-            let three = hand(two, c, &mut payload, &mut map);
-            say_held(assembly::progress(three, &payload, &map), &payload);
+            let one = hand(rt, rec, a, &mut payload, &mut map)?;
+            let two = hand(rt, one, b, &mut payload, &mut map)?;
+            let three = hand(rt, two, c, &mut payload, &mut map)?;
+            show_held(rt, assembly::progress(three, &payload, &map), &payload)?;
         }
     }
-    say(b"\n");
+    println!(rt; "")
 }
 
-fn orders() {
-    order(0, 3, 2);
-    order(0, 2, 3);
-    order(3, 0, 2);
-    order(3, 2, 0);
-    order(2, 0, 3);
-    order(2, 3, 0);
-    order(2, 0, 1);
+fn orders(rt: &impl Print) -> io::Result<()> {
+    order(rt, 0, 3, 2)?;
+    order(rt, 0, 2, 3)?;
+    order(rt, 3, 0, 2)?;
+    order(rt, 3, 2, 0)?;
+    order(rt, 2, 0, 3)?;
+    order(rt, 2, 3, 0)?;
+    order(rt, 2, 0, 1)
 }
 
 // Opens an assembly and hands in one packet.
-fn first(packet: &[u8]) {
+fn first(rt: &impl Print, packet: &[u8]) -> io::Result<()> {
     let mut payload = [0u8; 65515];
     let mut map = [0u8; 1024];
     match assembly::open(key(), &mut payload, &mut map) {
-        Err(refusal) => say_refused(refusal),
-        Ok(rec) => say_taken(assembly::take(rec, packet, &mut payload, &mut map)),
+        Err(refusal) => show_refused(rt, refusal)?,
+        Ok(rec) => show_taken(rt, assembly::take(rec, packet, &mut payload, &mut map))?,
     }
-    say(b"\n");
+    println!(rt; "")
 }
 
 // A segment of one byte, 41 bytes in all.
@@ -162,26 +156,26 @@ fn segment(saddr: u32, frag_off: u16) -> [u8; 41] {
     out
 }
 
-fn empty() {
+fn empty(rt: &impl Print) -> io::Result<()> {
     let mut out = [0u8; 20];
     let _ = ip4::fragment(template(), b"", 0, 0, &mut out);
-    say(b"all of no bytes:");
-    first(&out);
+    print!(rt; "all of no bytes:")?;
+    first(rt, &out)
 }
 
-fn sizes() {
+fn sizes(rt: &impl Print) -> io::Result<()> {
     let mut payload = [0u8; 65515];
     let mut map = [0u8; 1023];
-    say(b"a map of 1,023 bytes:");
+    print!(rt; "a map of 1,023 bytes:")?;
     match assembly::open(key(), &mut payload, &mut map) {
-        Err(refusal) => say_refused(refusal),
-        Ok(_) => say(b" open"),
+        Err(refusal) => show_refused(rt, refusal)?,
+        Ok(_) => print!(rt; " open")?,
     }
-    say(b"\n");
+    println!(rt; "")
 }
 
 // Hands a segment to an assembly with this total and floor.
-fn record(total: Option<usize>, floor: usize) {
+fn record(rt: &impl Print, total: Option<usize>, floor: usize) -> io::Result<()> {
     let mut payload = [0u8; 65515];
     let mut map = [0u8; 1024];
     let rec = Rec {
@@ -191,89 +185,89 @@ fn record(total: Option<usize>, floor: usize) {
         spoilt: false,
     };
     let out = segment(CLIENT, 0);
-    say_taken(assembly::take(rec, &out, &mut payload, &mut map));
-    say(b"\n");
+    show_taken(rt, assembly::take(rec, &out, &mut payload, &mut map))?;
+    println!(rt; "")
 }
 
-fn records() {
-    say(b"total 65,516:");
-    record(Some(65516), 0);
-    say(b"floor 65,514:");
-    record(None, 65514);
-    say(b"floor 65,513:");
-    record(None, 65513);
+fn records(rt: &impl Print) -> io::Result<()> {
+    print!(rt; "total 65,516:")?;
+    record(rt, Some(65516), 0)?;
+    print!(rt; "floor 65,514:")?;
+    record(rt, None, 65514)?;
+    print!(rt; "floor 65,513:")?;
+    record(rt, None, 65513)
 }
 
-fn cut_short() {
+fn cut_short(rt: &impl Print) -> io::Result<()> {
     let whole = segment(CLIENT, 0);
-    say(b"19 bytes:");
-    first(&whole[0..19]);
-    say(b"40 of 41 bytes:");
-    first(&whole[0..40]);
+    print!(rt; "19 bytes:")?;
+    first(rt, &whole[0..19])?;
+    print!(rt; "40 of 41 bytes:")?;
+    first(rt, &whole[0..40])
 }
 
 // First bytes that are not 0x45: with 0x46 the first four bytes of the segment stand for options.
-fn first_byte() {
+fn first_byte(rt: &impl Print) -> io::Result<()> {
     let mut out = segment(CLIENT, 0);
     out[0] = 0x44;
-    say(b"first byte 0x44:");
-    first(&out);
+    print!(rt; "first byte 0x44:")?;
+    first(rt, &out)?;
     out[0] = 0x46;
-    say(b"first byte 0x46:");
-    first(&out);
+    print!(rt; "first byte 0x46:")?;
+    first(rt, &out)
 }
 
-fn total_length() {
+fn total_length(rt: &impl Print) -> io::Result<()> {
     let mut out = segment(CLIENT, 0);
     out[3] = 19;
-    say(b"total length 19:");
-    first(&out);
+    print!(rt; "total length 19:")?;
+    first(rt, &out)
 }
 
-fn time_to_live() {
+fn time_to_live(rt: &impl Print) -> io::Result<()> {
     let mut out = segment(CLIENT, 0);
     out[8] = 63;
-    say(b"another TTL under the same checksum:");
-    first(&out);
+    print!(rt; "another TTL under the same checksum:")?;
+    first(rt, &out)
 }
 
-fn sent(saddr: u32, frag_off: u16) {
+fn sent(rt: &impl Print, saddr: u32, frag_off: u16) -> io::Result<()> {
     let out = segment(saddr, frag_off);
-    first(&out);
+    first(rt, &out)
 }
 
-fn other_protocol() {
+fn other_protocol(rt: &impl Print) -> io::Result<()> {
     let out = lap();
-    first(&out);
+    first(rt, &out)
 }
 
-fn pieces() {
-    say(b"another source:");
-    sent(SERVER, 0);
-    say(b"another protocol:");
-    other_protocol();
-    say(b"21 bytes with MF set:");
-    sent(CLIENT, 0x2000);
-    say(b"21 bytes at block 8,187:");
-    sent(CLIENT, 8187);
-    say(b"21 bytes at block 8,186:");
-    sent(CLIENT, 8186);
-    say(b"21 bytes with DF set:");
-    sent(CLIENT, 0x4000);
+fn pieces(rt: &impl Print) -> io::Result<()> {
+    print!(rt; "another source:")?;
+    sent(rt, SERVER, 0)?;
+    print!(rt; "another protocol:")?;
+    other_protocol(rt)?;
+    print!(rt; "21 bytes with MF set:")?;
+    sent(rt, CLIENT, 0x2000)?;
+    print!(rt; "21 bytes at block 8,187:")?;
+    sent(rt, CLIENT, 8187)?;
+    print!(rt; "21 bytes at block 8,186:")?;
+    sent(rt, CLIENT, 8186)?;
+    print!(rt; "21 bytes with DF set:")?;
+    sent(rt, CLIENT, 0x4000)
 }
 
 // The reserved bit: 18, behind 7 and before 8 and 9.
-fn reserved() {
+fn reserved(rt: &impl Print) -> io::Result<()> {
     let mut out = segment(CLIENT, 0);
     out[6] = 0x80;
-    say(b"the reserved bit set under the same checksum:");
-    first(&out);
-    say(b"the reserved bit set:");
-    sent(CLIENT, 0x8000);
-    say(b"the reserved bit set, and another source:");
-    sent(SERVER, 0x8000);
-    say(b"the reserved bit and MF set, 21 bytes:");
-    sent(CLIENT, 0xa000);
+    print!(rt; "the reserved bit set under the same checksum:")?;
+    first(rt, &out)?;
+    print!(rt; "the reserved bit set:")?;
+    sent(rt, CLIENT, 0x8000)?;
+    print!(rt; "the reserved bit set, and another source:")?;
+    sent(rt, SERVER, 0x8000)?;
+    print!(rt; "the reserved bit and MF set, 21 bytes:")?;
+    sent(rt, CLIENT, 0xa000)
 }
 
 // A ping and a telemetry datagram, of 52 bytes each, with identification 0 between the same hosts.
@@ -326,56 +320,68 @@ fn piece_of(protocol: u8, off: u16, len: u16) -> [u8; 36] {
     out
 }
 
-fn hand_piece(rec: Rec, protocol: u8, off: u16, payload: &mut [u8], map: &mut [u8]) -> Rec {
+fn hand_piece(
+    rt: &impl Print,
+    rec: Rec,
+    protocol: u8,
+    off: u16,
+    payload: &mut [u8],
+    map: &mut [u8],
+) -> io::Result<Rec> {
     let out = piece_of(protocol, off, 2);
     let taken = assembly::take(rec, &out, payload, map);
-    say_taken(taken);
-    kept(rec, taken)
+    show_taken(rt, taken)?;
+    Ok(kept(rec, taken))
 }
 
 // What a complete datagram carries behind its 8 bytes of header.
-fn say_data(progress: Result<Progress, Refusal>, payload: &[u8]) {
+fn show_data(
+    rt: &impl Print,
+    progress: Result<Progress, Refusal>,
+    payload: &[u8],
+) -> io::Result<()> {
     if let Ok(Progress::Complete(n)) = progress {
-        say(b", holds ");
-        say(part::back(part::front(payload, n), 8));
+        print!(rt; ", holds ")?;
+        rt.write_all(part::back(part::front(payload, n), 8))?;
     }
+    Ok(())
 }
 
 // The pieces of both datagrams, mixed, for the assembly of one protocol.
-fn mixed(protocol: u8) {
+fn mixed(rt: &impl Print, protocol: u8) -> io::Result<()> {
     let mut payload = [0u8; 65515];
     let mut map = [0u8; 1024];
     match assembly::open(key_of(protocol), &mut payload, &mut map) {
-        Err(refusal) => say_refused(refusal),
+        Err(refusal) => show_refused(rt, refusal)?,
         Ok(rec) => {
-            let one = hand_piece(rec, 1, 0, &mut payload, &mut map);
-            let two = hand_piece(one, 17, 2, &mut payload, &mut map);
-            let three = hand_piece(two, 17, 0, &mut payload, &mut map);
-            let four = hand_piece(three, 1, 2, &mut payload, &mut map);
-            say_data(assembly::progress(four, &payload, &map), &payload);
+            let one = hand_piece(rt, rec, 1, 0, &mut payload, &mut map)?;
+            let two = hand_piece(rt, one, 17, 2, &mut payload, &mut map)?;
+            let three = hand_piece(rt, two, 17, 0, &mut payload, &mut map)?;
+            let four = hand_piece(rt, three, 1, 2, &mut payload, &mut map)?;
+            show_data(rt, assembly::progress(four, &payload, &map), &payload)?;
         }
     }
-    say(b"\n");
+    println!(rt; "")
 }
 
-fn both() {
-    say(b"a ping and a lap with one identification, to the ping's assembly:");
-    mixed(1);
-    say(b"to the lap's assembly:");
-    mixed(17);
+fn both(rt: &impl Print) -> io::Result<()> {
+    print!(rt; "a ping and a lap with one identification, to the ping's assembly:")?;
+    mixed(rt, 1)?;
+    print!(rt; "to the lap's assembly:")?;
+    mixed(rt, 17)
 }
 
-fn main() {
-    orders();
-    empty();
-    sizes();
-    records();
-    cut_short();
-    first_byte();
-    total_length();
-    time_to_live();
-    pieces();
-    reserved();
-    both();
-    options::each();
+fn main(rt: HostRuntime) -> io::Result<()> {
+    orders(&rt)?;
+    empty(&rt)?;
+    sizes(&rt)?;
+    records(&rt)?;
+    cut_short(&rt)?;
+    first_byte(&rt)?;
+    total_length(&rt)?;
+    time_to_live(&rt)?;
+    pieces(&rt)?;
+    reserved(&rt)?;
+    both(&rt)?;
+    options::each(&rt)
 }

@@ -1,7 +1,8 @@
 // A lap in three pieces, with router alert on some of them, in every order.
-use crate::{first, kept, key_of, piece_of, say, say_data, say_number, say_taken};
+use crate::{first, kept, key_of, piece_of, show_data, show_taken};
 use assembly::{Rec, Taken};
 use pkt::refusal::Refusal;
+use std::io;
 
 // The lap's piece at block 0, 1 or 2, with router alert: a block, and eight bytes that do not count; the last has two blocks.
 fn alerted(off: u16) -> [u8; 40] {
@@ -45,15 +46,16 @@ fn take_lap(
 
 // .. and says what came of it.
 fn hand_lap(
+    rt: &impl Print,
     rec: Rec,
     choice: u8,
     off: u16,
     payload: &mut [u8; 65515],
     map: &mut [u8; 1024],
-) -> Rec {
+) -> io::Result<Rec> {
     let taken = take_lap(rec, choice, off, payload, map);
-    say_taken(taken);
-    kept(rec, taken)
+    show_taken(rt, taken)?;
+    Ok(kept(rec, taken))
 }
 
 // The lap's assembly, opened.
@@ -70,40 +72,38 @@ fn opened(payload: &mut [u8; 65515], map: &mut [u8; 1024]) -> Rec {
 
 // The three pieces in an order, and the record then.
 fn three(
+    rt: &impl Print,
     choice: u8,
     a: u16,
     b: u16,
     c: u16,
     payload: &mut [u8; 65515],
     map: &mut [u8; 1024],
-) -> Rec {
+) -> io::Result<Rec> {
     let rec = opened(payload, map);
-    let one = hand_lap(rec, choice, a, payload, map);
-    let two = hand_lap(one, choice, b, payload, map);
-    hand_lap(two, choice, c, payload, map)
+    let one = hand_lap(rt, rec, choice, a, payload, map)?;
+    let two = hand_lap(rt, one, choice, b, payload, map)?;
+    hand_lap(rt, two, choice, c, payload, map)
 }
 
 // Where router alert is.
-fn say_alert(choice: u8, off: u16) {
+fn show_alert(rt: &impl Print, choice: u8, off: u16) -> io::Result<()> {
     if has_alert(choice, off) {
-        say_number(off as u64);
+        print!(rt; " {off}")?;
     }
+    Ok(())
 }
 
 // Which pieces have router alert, and the order.
-fn say_order(choice: u8, a: u16, b: u16, c: u16) {
-    say(b"router alert on");
+fn show_order(rt: &impl Print, choice: u8, a: u16, b: u16, c: u16) -> io::Result<()> {
+    print!(rt; "router alert on")?;
     if choice == 0 {
-        say(b" none");
+        print!(rt; " none")?;
     }
-    say_alert(choice, 0);
-    say_alert(choice, 1);
-    say_alert(choice, 2);
-    say(b", blocks");
-    say_number(a as u64);
-    say_number(b as u64);
-    say_number(c as u64);
-    say(b":");
+    show_alert(rt, choice, 0)?;
+    show_alert(rt, choice, 1)?;
+    show_alert(rt, choice, 2)?;
+    print!(rt; ", blocks {a} {b} {c}:")
 }
 
 // Whether two payload buffers and two maps are the same.
@@ -112,64 +112,68 @@ fn same_bytes(p: &[u8], q: &[u8], m: &[u8], n: &[u8]) -> bool {
 }
 
 // Whether a state is that without router alert.
-fn say_same(same: bool) {
+fn show_same(rt: &impl Print, same: bool) -> io::Result<()> {
     if same {
-        say(b", the same state");
+        print!(rt; ", the same state")
     } else {
-        say(b", ANOTHER state");
+        print!(rt; ", ANOTHER state")
     }
 }
 
 // What a complete lap carries.
-fn say_lap(rec: Rec, payload: &[u8; 65515], map: &[u8; 1024]) {
-    say_data(assembly::progress(rec, payload, map), payload);
-    say(b"\n");
+fn show_lap(rt: &impl Print, rec: Rec, payload: &[u8; 65515], map: &[u8; 1024]) -> io::Result<()> {
+    show_data(rt, assembly::progress(rec, payload, map), payload)?;
+    println!(rt; "")
 }
 
 // The pieces with router alert and as they are, and whether both end in the same state.
-fn beside(choice: u8, a: u16, b: u16, c: u16) {
+fn beside(rt: &impl Print, choice: u8, a: u16, b: u16, c: u16) -> io::Result<()> {
     let mut payload = [0u8; 65515];
     let mut map = [0u8; 1024];
     let mut other = [0u8; 65515];
     let mut marks = [0u8; 1024];
-    say_order(choice, a, b, c);
-    let rec = three(choice, a, b, c, &mut payload, &mut map);
-    say(b", without it:");
-    let plain = three(0, a, b, c, &mut other, &mut marks);
-    say_same(rec == plain && same_bytes(&payload, &other, &map, &marks));
-    say_lap(rec, &payload, &map);
+    show_order(rt, choice, a, b, c)?;
+    let rec = three(rt, choice, a, b, c, &mut payload, &mut map)?;
+    print!(rt; ", without it:")?;
+    let plain = three(rt, 0, a, b, c, &mut other, &mut marks)?;
+    show_same(
+        rt,
+        rec == plain && same_bytes(&payload, &other, &map, &marks),
+    )?;
+    show_lap(rt, rec, &payload, &map)
 }
 
 // All six orders.
-fn orders(choice: u8) {
-    beside(choice, 0, 1, 2);
-    beside(choice, 0, 2, 1);
-    beside(choice, 1, 0, 2);
-    beside(choice, 1, 2, 0);
-    beside(choice, 2, 0, 1);
-    beside(choice, 2, 1, 0);
+fn orders(rt: &impl Print, choice: u8) -> io::Result<()> {
+    beside(rt, choice, 0, 1, 2)?;
+    beside(rt, choice, 0, 2, 1)?;
+    beside(rt, choice, 1, 0, 2)?;
+    beside(rt, choice, 1, 2, 0)?;
+    beside(rt, choice, 2, 0, 1)?;
+    beside(rt, choice, 2, 1, 0)
 }
 
 // All eight choices.
-fn choices() {
+fn choices(rt: &impl Print) -> io::Result<()> {
     for choice in 0..8 {
-        orders(choice);
+        orders(rt, choice)?;
     }
+    Ok(())
 }
 
 // A piece with router alert whose header is wrong.
-fn refused() {
+fn refused(rt: &impl Print) -> io::Result<()> {
     let mut out = alerted(0);
     out[23] = 1;
-    say(b"another byte in the option:");
-    first(&out);
+    print!(rt; "another byte in the option:")?;
+    first(rt, &out)?;
     out[3] = 23;
-    say(b"router alert, total length 23:");
-    first(&out);
+    print!(rt; "router alert, total length 23:")?;
+    first(rt, &out)
 }
 
 // All of them.
-pub(crate) fn each() {
-    choices();
-    refused();
+pub(crate) fn each(rt: &impl Print) -> io::Result<()> {
+    choices(rt)?;
+    refused(rt)
 }
