@@ -20,6 +20,7 @@ fn say_failed(rt: &impl Eprint, what: &str, e: Error) {
 }
 
 // Reads until the buffer is full or the input ends, and answers how many bytes were read.
+// (A while: how many bytes a read gives is only known behind it.)
 fn fill(from: &mut impl Read, buf: &mut [u8]) -> Result<usize, Error>
     ensures { IfOk result (λ n. n ≤ length buf.new) }
 {
@@ -136,10 +137,7 @@ fn say_wanted(rt: &impl Eprint) {
 
 // The bytes of a word; none where it is missing.
 fn bytes(word: &Option<String>) -> &[u8] {
-    match word {
-        Some(w) => w.as_bytes(),
-        None => &[],
-    }
+    word.as_deref().unwrap_or("").as_bytes()
 }
 
 // Runs what the words ask for, of which there are so many with the program's name.

@@ -131,10 +131,7 @@ fn say_wanted(rt: &impl Eprint) {
 
 // The bytes of a word; none where it is missing.
 fn bytes(word: &Option<String>) -> &[u8] {
-    match word {
-        Some(w) => w.as_bytes(),
-        None => &[],
-    }
+    word.as_deref().unwrap_or("").as_bytes()
 }
 
 // Does what the words ask for.

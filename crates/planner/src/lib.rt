@@ -13,7 +13,8 @@ use pieces::BlockRequest;
 use pkt::limit;
 use pkt::refusal::Refusal;
 
-// What is known after so many requests: the bytes before next were carried; whether all was good so far; whether the last has MF clear.
+// What is known after so many requests: the bytes before next were carried; whether all was good so far; whether the last has MF clear. (Truths and
+// no Option: each field is told by what is specified, look_with, whatever the others are.)
 #[derive(Clone, Copy, Drop)]
 pub struct Look {
     pub n: usize,
