@@ -10,21 +10,18 @@ ghost use Rattle.flowreport.specs.Gather.{GatherAsks};
 use ezpkt::SocketAddrV4;
 use pkt::refusal::{ListRefusal, Refusal};
 use reporting::Report;
+use std::alloc::AllocError;
 use std::env::FillError;
-use std::io::Error;
+use std::fmt::Display;
 use std::rt::Env;
 
 const STDIN_FILENO: i32 = 0;
 
-// The bytes of the longest capture that is taken, and the most records in one: each has a header of 16 bytes.
+// The bytes of the longest capture that is taken.
 const MOST: usize = 2097152;
 
-const MOST_RECORDS: usize = MOST / 16;
-
-const ROOM: usize = MOST + 1;
-
 // Says on standard error what failed, and why.
-fn say_failed(rt: &impl Eprint, what: &str, e: Error) {
+fn say_failed(rt: &impl Eprint, what: &str, e: impl Display + Drop) {
     let _ = eprintln!(rt; "flowreport: {what}: {e}");
 }
 
@@ -76,36 +73,16 @@ fn report_in(
     reporting::flow_report(out, &ends[0..packets], cl, sv)
 }
 
-// The arrays as slices.
-fn report_within(
+// The report of a capture, or why there is none. A record has a header of 16 bytes.
+fn report(
+    rt: &(impl Print + Eprint + AllocGlobal),
     capture: &[u8],
-    out: &mut [u8; MOST],
-    ends: &mut [usize; MOST_RECORDS],
     cl: SocketAddrV4,
     sv: SocketAddrV4,
-) -> Result<Report, ListRefusal>
-    requires { length capture.now ≤ 2097152 }
-{
-    report_in(capture, out, ends, cl, sv)
-}
-
-// The report of a capture.
-fn report(capture: &[u8], cl: SocketAddrV4, sv: SocketAddrV4) -> Result<Report, ListRefusal>
-    requires { length capture.now ≤ 2097152 }
-{
-    let mut out = [0u8; MOST];
-    let mut ends = [0usize; MOST_RECORDS];
-    report_within(capture, &mut out, &mut ends, cl, sv)
-}
-
-// Reads a capture; a byte more than the longest has shows that there is more. Then the report, or why there is none.
-fn read_into(rt: &(impl Print + Eprint), input: &mut [u8], cl: SocketAddrV4, sv: SocketAddrV4) {
-    let n = io::read_full(STDIN_FILENO, input);
-    if MOST < n {
-        let _ = rt.eprintln("flowreport: more than 2,097,152 bytes of input");
-        return;
-    }
-    match report(&input[0..n], cl, sv) {
+) -> Result<(), AllocError> {
+    let mut out = vec![in rt.alloc(); 0u8; capture.len()]?;
+    let mut ends = vec![in rt.alloc(); 0usize; capture.len() / 16 + 1]?;
+    match report_in(capture, &mut out, &mut ends, cl, sv) {
         Ok(r) => {
             if let Err(e) = table::show(rt, r) {
                 say_failed(rt, "standard output", e);
@@ -113,28 +90,32 @@ fn read_into(rt: &(impl Print + Eprint), input: &mut [u8], cl: SocketAddrV4, sv:
         }
         Err(refused) => say_refused(rt, refused),
     }
+    Ok(())
 }
 
-// The array as a slice.
-fn read_within(
-    rt: &(impl Print + Eprint),
-    input: &mut [u8; ROOM],
+// Reads a capture, and reports on it; a byte more than the longest has shows that there is more.
+fn run(
+    rt: &(impl Print + Eprint + AllocGlobal),
     cl: SocketAddrV4,
     sv: SocketAddrV4,
-) {
-    read_into(rt, input, cl, sv);
-}
-
-fn read_capture(rt: &(impl Print + Eprint), cl: SocketAddrV4, sv: SocketAddrV4) {
-    let mut input = [0u8; ROOM];
-    read_within(rt, &mut input, cl, sv);
+) -> Result<(), AllocError> {
+    let mut input = vec![in rt.alloc(); 0u8; MOST + 1]?;
+    let n = io::read_full(STDIN_FILENO, &mut input);
+    if MOST < n {
+        let _ = rt.eprintln("flowreport: more than 2,097,152 bytes of input");
+        return Ok(());
+    }
+    report(rt, &input[0..n], cl, sv)
 }
 
 // Both addresses, and then the capture.
-fn with_words(rt: &(impl Print + Eprint), client: &[u8], server: &[u8]) {
-    match (words::read_address(client), words::read_address(server)) {
-        (Some(cl), Some(sv)) => read_capture(rt, cl, sv),
-        _ => say_wanted(rt),
+fn with_words(rt: &(impl Print + Eprint + AllocGlobal), client: &[u8], server: &[u8]) {
+    let (Some(cl), Some(sv)) = (words::read_address(client), words::read_address(server)) else {
+        say_wanted(rt);
+        return;
+    };
+    if let Err(e) = run(rt, cl, sv) {
+        say_failed(rt, "memory", e);
     }
 }
 
