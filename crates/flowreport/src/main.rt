@@ -11,9 +11,9 @@ use ezpkt::SocketAddrV4;
 use pkt::refusal::{ListRefusal, Refusal};
 use reporting::Report;
 use std::alloc::AllocError;
-use std::env::FillError;
+use std::env;
+use std::env::Args;
 use std::fmt::Display;
-use std::rt::Env;
 
 const STDIN_FILENO: i32 = 0;
 
@@ -108,42 +108,29 @@ fn run(
     report(rt, &input[0..n], cl, sv)
 }
 
-// Both addresses, and then the capture.
-fn with_words(rt: &(impl Print + Eprint + AllocGlobal), client: &[u8], server: &[u8]) {
-    let (Some(cl), Some(sv)) = (words::read_address(client), words::read_address(server)) else {
-        say_wanted(rt);
-        return;
-    };
-    if let Err(e) = run(rt, cl, sv) {
-        say_failed(rt, "memory", e);
+// The two addresses that the words behind the program's name are, if they are.
+fn addresses(mut args: Args) -> Option<(SocketAddrV4, SocketAddrV4)> {
+    if args.len() != 3 {
+        return None;
     }
-}
-
-// The word of this number at the start of buf, and how long it is: 0 where it is missing or longer than buf.
-fn word(rt: &impl Env, i: usize, buf: &mut [u8]) -> usize
-    ensures { result ≤ length buf.new }
-{
-    rt.arg(i, buf).unwrap_or(0)
-}
-
-// How many words there are, with the program's name.
-fn word_count(rt: &impl Env) -> usize {
-    for i in 0..usize::MAX {
-        if let Err(FillError::NotPresent) = rt.arg(i, &mut [0u8; 1]) {
-            return i;
-        }
-    }
-    usize::MAX
+    let _name = args.next()?;
+    let client = args.next()?;
+    let server = args.next()?;
+    let cl = words::read_address(client.as_bytes())?;
+    let sv = words::read_address(server.as_bytes())?;
+    Some((cl, sv))
 }
 
 fn main(rt: HostRuntime) {
-    let mut client = [0u8; words::LONGEST];
-    let mut server = [0u8; words::LONGEST];
-    let a = word(&rt, 1, &mut client);
-    let b = word(&rt, 2, &mut server);
-    if word_count(&rt) != 3 {
+    let asked = match env::args(&rt) {
+        Ok(args) => addresses(args),
+        Err(_) => None,
+    };
+    let Some((cl, sv)) = asked else {
         say_wanted(&rt);
         return;
+    };
+    if let Err(e) = run(&rt, cl, sv) {
+        say_failed(&rt, "memory", e);
     }
-    with_words(&rt, &client[..a], &server[..b]);
 }
