@@ -10,21 +10,18 @@ ghost use Rattle.flowreport.specs.Gather.{GatherAsks};
 use ezpkt::SocketAddrV4;
 use pkt::refusal::{ListRefusal, Refusal};
 use reporting::Report;
-use std::env::FillError;
-use std::io::Error;
-use std::rt::Env;
+use std::alloc::AllocError;
+use std::env;
+use std::env::Args;
+use std::fmt::Display;
 
 const STDIN_FILENO: i32 = 0;
 
-// The bytes of the longest capture that is taken, and the most records in one: each has a header of 16 bytes.
+// The bytes of the longest capture that is taken.
 const MOST: usize = 2097152;
 
-const MOST_RECORDS: usize = MOST / 16;
-
-const ROOM: usize = MOST + 1;
-
 // Says on standard error what failed, and why.
-fn say_failed(rt: &impl Eprint, what: &str, e: Error) {
+fn say_failed(rt: &impl Eprint, what: &str, e: impl Display + Drop) {
     let _ = eprintln!(rt; "flowreport: {what}: {e}");
 }
 
@@ -76,36 +73,16 @@ fn report_in(
     reporting::flow_report(out, &ends[0..packets], cl, sv)
 }
 
-// The arrays as slices.
-fn report_within(
+// The report of a capture, or why there is none. A record has a header of 16 bytes.
+fn report(
+    rt: &(impl Print + Eprint + AllocGlobal),
     capture: &[u8],
-    out: &mut [u8; MOST],
-    ends: &mut [usize; MOST_RECORDS],
     cl: SocketAddrV4,
     sv: SocketAddrV4,
-) -> Result<Report, ListRefusal>
-    requires { length capture.now ≤ 2097152 }
-{
-    report_in(capture, out, ends, cl, sv)
-}
-
-// The report of a capture.
-fn report(capture: &[u8], cl: SocketAddrV4, sv: SocketAddrV4) -> Result<Report, ListRefusal>
-    requires { length capture.now ≤ 2097152 }
-{
-    let mut out = [0u8; MOST];
-    let mut ends = [0usize; MOST_RECORDS];
-    report_within(capture, &mut out, &mut ends, cl, sv)
-}
-
-// Reads a capture; a byte more than the longest has shows that there is more. Then the report, or why there is none.
-fn read_into(rt: &(impl Print + Eprint), input: &mut [u8], cl: SocketAddrV4, sv: SocketAddrV4) {
-    let n = io::read_full(STDIN_FILENO, input);
-    if MOST < n {
-        let _ = rt.eprintln("flowreport: more than 2,097,152 bytes of input");
-        return;
-    }
-    match report(&input[0..n], cl, sv) {
+) -> Result<(), AllocError> {
+    let mut out = vec![in rt.alloc(); 0u8; capture.len()]?;
+    let mut ends = vec![in rt.alloc(); 0usize; capture.len() / 16 + 1]?;
+    match report_in(capture, &mut out, &mut ends, cl, sv) {
         Ok(r) => {
             if let Err(e) = table::show(rt, r) {
                 say_failed(rt, "standard output", e);
@@ -113,56 +90,47 @@ fn read_into(rt: &(impl Print + Eprint), input: &mut [u8], cl: SocketAddrV4, sv:
         }
         Err(refused) => say_refused(rt, refused),
     }
+    Ok(())
 }
 
-// The array as a slice.
-fn read_within(
-    rt: &(impl Print + Eprint),
-    input: &mut [u8; ROOM],
+// Reads a capture, and reports on it; a byte more than the longest has shows that there is more.
+fn run(
+    rt: &(impl Print + Eprint + AllocGlobal),
     cl: SocketAddrV4,
     sv: SocketAddrV4,
-) {
-    read_into(rt, input, cl, sv);
-}
-
-fn read_capture(rt: &(impl Print + Eprint), cl: SocketAddrV4, sv: SocketAddrV4) {
-    let mut input = [0u8; ROOM];
-    read_within(rt, &mut input, cl, sv);
-}
-
-// Both addresses, and then the capture.
-fn with_words(rt: &(impl Print + Eprint), client: &[u8], server: &[u8]) {
-    match (words::read_address(client), words::read_address(server)) {
-        (Some(cl), Some(sv)) => read_capture(rt, cl, sv),
-        _ => say_wanted(rt),
+) -> Result<(), AllocError> {
+    let mut input = vec![in rt.alloc(); 0u8; MOST + 1]?;
+    let n = io::read_full(STDIN_FILENO, &mut input);
+    if MOST < n {
+        let _ = rt.eprintln("flowreport: more than 2,097,152 bytes of input");
+        return Ok(());
     }
+    report(rt, &input[0..n], cl, sv)
 }
 
-// The word of this number at the start of buf, and how long it is: 0 where it is missing or longer than buf.
-fn word(rt: &impl Env, i: usize, buf: &mut [u8]) -> usize
-    ensures { result ≤ length buf.new }
-{
-    rt.arg(i, buf).unwrap_or(0)
-}
-
-// How many words there are, with the program's name.
-fn word_count(rt: &impl Env) -> usize {
-    for i in 0..usize::MAX {
-        if let Err(FillError::NotPresent) = rt.arg(i, &mut [0u8; 1]) {
-            return i;
-        }
+// The two addresses that the words behind the program's name are, if they are.
+fn addresses(mut args: Args) -> Option<(SocketAddrV4, SocketAddrV4)> {
+    if args.len() != 3 {
+        return None;
     }
-    usize::MAX
+    let _name = args.next()?;
+    let client = args.next()?;
+    let server = args.next()?;
+    let cl = words::read_address(client.as_bytes())?;
+    let sv = words::read_address(server.as_bytes())?;
+    Some((cl, sv))
 }
 
 fn main(rt: HostRuntime) {
-    let mut client = [0u8; words::LONGEST];
-    let mut server = [0u8; words::LONGEST];
-    let a = word(&rt, 1, &mut client);
-    let b = word(&rt, 2, &mut server);
-    if word_count(&rt) != 3 {
+    let asked = match env::args(&rt) {
+        Ok(args) => addresses(args),
+        Err(_) => None,
+    };
+    let Some((cl, sv)) = asked else {
         say_wanted(&rt);
         return;
+    };
+    if let Err(e) = run(&rt, cl, sv) {
+        say_failed(&rt, "memory", e);
     }
-    with_words(&rt, &client[..a], &server[..b]);
 }
