@@ -137,6 +137,7 @@ fn unless_bad(good: bool) -> Result<Verdict, Refusal>
 
 // The second step: whether the sums of a whole packet of this kind verify. A UDP field of 0 is not
 // summed.
+#[tactic(auto, unfolding(crate::specs::Check::verdict_of))]
 fn sums(kind: Kind, h: IpRead, part: &[u8]) -> Result<Verdict, Refusal>
     requires { length part.now ≤ most_ip }
     ensures { says result ≡ verdict_of kind h part.now }

@@ -27,6 +27,7 @@ pub struct IpRead {
 }
 
 // The byte at a place.
+#[tactic(auto, using(crate::proofs::Numbers::field_one))]
 pub(crate) fn be8(s: &[u8], at: usize) -> u8
     requires { at + 1 ≤ length s.now }
     ensures { result ≡ field_at s.now at 1 }
@@ -35,6 +36,7 @@ pub(crate) fn be8(s: &[u8], at: usize) -> u8
 }
 
 // The number in two bytes.
+#[tactic(auto, using(crate::proofs::Numbers::field_two))]
 pub(crate) fn be16(s: &[u8], at: usize) -> u16
     requires { at + 2 ≤ length s.now }
     ensures { result ≡ field_at s.now at 2 }
@@ -51,6 +53,7 @@ pub(crate) fn be32(s: &[u8], at: usize) -> u32
 }
 
 // What the first 20 bytes say. The bits below MF are the offset.
+#[tactic(auto, unfolding(crate::specs::Header::header_of))]
 fn fields(packet: &[u8]) -> IpRead
     requires { 20 ≤ length packet.now }
     ensures { result ≡ header_of packet.now }
@@ -75,6 +78,7 @@ fn fields(packet: &[u8]) -> IpRead
 }
 
 // Whether the version is not 4, or the header has under 5 words.
+#[tactic(auto, unfolding(crate::specs::Header::not_ipv4))]
 fn not_ipv4(packet: &[u8]) -> bool
     requires { 1 ≤ length packet.now }
     ensures { result ≡ not_ipv4 packet.now }
@@ -84,6 +88,7 @@ fn not_ipv4(packet: &[u8]) -> bool
 }
 
 // The header of a packet that is all there, whatever its checksum.
+#[tactic(auto, using(crate::proofs::Reading::ipv4_least), unfolding(crate::specs::Header::frame_answer))]
 pub fn frame(packet: &[u8]) -> Result<IpRead, Refusal>
     ensures { says result ≡ frame_answer packet.now }
 {

@@ -8,6 +8,7 @@ use pkt::ipv4::tcp_hdr;
 use pkt::refusal::Refusal;
 
 // What the first 20 bytes say.
+#[tactic(auto, unfolding(crate::specs::Tcp::tcp_of))]
 fn fields(part: &[u8]) -> tcp_hdr
     requires { 20 ≤ length part.now }
     ensures { result ≡ tcp_of part.now }

@@ -1,8 +1,0 @@
--- By the test of MF.
-use Rattle.inspect.proofs.check.is_piece.Goals as goal
-
-pub returns-then-h : goal.returns-then-h
-returns-then-h c = simp c.if-h.true
-
-pub returns-else-h : goal.returns-else-h
-returns-else-h c = simp c.if-h.false
