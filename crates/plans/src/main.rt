@@ -6,123 +6,102 @@ use ezpkt::ip4;
 use pieces::BlockRequest;
 use pkt::refusal::Refusal;
 use planner::{Job, Look};
+use std::io::Error;
 
-const STDOUT_FILENO: i32 = 1;
-
-fn say(text: &[u8]) {
-    io::write_all(STDOUT_FILENO, text);
+// One line: the offset and the length in blocks, and the bytes.
+fn print_request(rt: &impl Print, r: BlockRequest, n: usize) -> Result<(), Error> {
+    let off = r.off;
+    let len = r.len;
+    let bytes = ip4::fragment_size(off, len, n) - 20;
+    println!(rt; "{off} {len} {bytes}")
 }
 
-fn number(n: usize) {
-    io::print_decimal(STDOUT_FILENO, n as u64);
-}
-
-fn print_request(r: BlockRequest, n: usize) {
-    number(r.off as usize);
-    say(b" ");
-    number(r.len as usize);
-    say(b" ");
-    number(ip4::fragment_size(r.off, r.len, n) - 20);
-    say(b"\n");
-}
-
-fn print_requests(job: Job) {
+fn print_requests(rt: &impl Print, job: Job) -> Result<(), Error> {
     for k in 0..job.count {
         if k < 3 || k + 1 == job.count {
-            print_request(planner::nth(job, k), job.n);
+            print_request(rt, planner::nth(job, k), job.n)?;
         }
     }
+    Ok(())
 }
 
-fn say_refused(refusal: Refusal) {
-    say(b"refused by ");
-    number(refusal.number() as usize);
-    say(b"\n");
+fn print_refused(rt: &impl Print, refusal: Refusal) -> Result<(), Error> {
+    let number = refusal.number();
+    println!(rt; "refused by {number}")
 }
 
 // The planner's list of n bytes for a link of m.
-fn list(n: usize, m: usize) {
-    number(n);
-    say(b" ");
-    number(m);
-    say(b": ");
+fn list(rt: &impl Print, n: usize, m: usize) -> Result<(), Error> {
+    print!(rt; "{n} {m}: ")?;
     match planner::decide(n, m, 8190) {
         Ok(job) => {
-            number(job.count);
-            say(b"\n");
-            print_requests(job);
+            let count = job.count;
+            println!(rt; "{count}")?;
+            print_requests(rt, job)
         }
-        Err(refusal) => say_refused(refusal),
+        Err(refusal) => print_refused(rt, refusal),
     }
 }
 
-fn say_judged(look: Look) {
+fn print_judged(rt: &impl Print, look: Look) -> Result<(), Error> {
     match planner::judge(look) {
-        Ok(true) => say(b"yes\n"),
-        Ok(false) => say(b"no\n"),
-        Err(refusal) => say_refused(refusal),
+        Ok(true) => println!(rt; "yes"),
+        Ok(false) => println!(rt; "no"),
+        Err(refusal) => print_refused(rt, refusal),
     }
 }
 
-fn look_at(look: Look, off: u16, len: u16) -> Look {
-    say(b"(");
-    number(off as usize);
-    say(b" ");
-    number(len as usize);
-    say(b") ");
-    planner::look_at(look, BlockRequest { off, len })
+// What the check says of this list for 3,488 bytes and a link of 1,500.
+fn check(rt: &impl Print, list: &[BlockRequest]) -> Result<(), Error> {
+    let mut look = planner::look_none(3488, 1500);
+    for r in list {
+        let off = r.off;
+        let len = r.len;
+        print!(rt; "({off} {len}) ")?;
+        look = planner::look_at(look, *r);
+    }
+    print_judged(rt, look)
 }
 
-// What the check says of lists for 3,488 bytes and a link of 1,500.
-fn check_three(a: u16, b: u16, c: u16, d: u16, e: u16, f: u16) {
-    let none = planner::look_none(3488, 1500);
-    let one = look_at(none, a, b);
-    let two = look_at(one, c, d);
-    say_judged(look_at(two, e, f));
+fn request(off: u16, len: u16) -> BlockRequest {
+    BlockRequest { off, len }
 }
 
-fn check_four(a: u16, b: u16, c: u16, d: u16, e: u16, f: u16, g: u16, h: u16) {
-    let none = planner::look_none(3488, 1500);
-    let one = look_at(none, a, b);
-    let two = look_at(one, c, d);
-    let three = look_at(two, e, f);
-    say_judged(look_at(three, g, h));
+fn lists(rt: &impl Print) -> Result<(), Error> {
+    list(rt, 0, 1500)?;
+    list(rt, 0, 20)?;
+    list(rt, 0, 19)?;
+    list(rt, 7, 27)?;
+    list(rt, 8, 27)?;
+    list(rt, 8, 28)?;
+    list(rt, 20, 32)?;
+    list(rt, 3488, 1500)?;
+    list(rt, 65515, 28)?;
+    list(rt, 65515, 4294967296)?;
+    list(rt, 65515, 0xffffffffffffffff)?;
+    list(rt, 5, 0xffffffffffffffff)?;
+    list(rt, 65516, 1500)?;
+    list(rt, 65516, 0)
 }
 
-fn lists() {
-    list(0, 1500);
-    list(0, 20);
-    list(0, 19);
-    list(7, 27);
-    list(8, 27);
-    list(8, 28);
-    list(20, 32);
-    list(3488, 1500);
-    list(65515, 28);
-    list(65515, 4294967296);
-    list(65515, 0xffffffffffffffff);
-    list(5, 0xffffffffffffffff);
-    list(65516, 1500);
-    list(65516, 0);
+fn checks(rt: &impl Print) -> Result<(), Error> {
+    let [a, b, c] = [request(0, 185), request(185, 185), request(370, 66)];
+    check(rt, &[])?;
+    check(rt, &[a, b, c])?;
+    check(rt, &[a, b, request(370, 65535)])?;
+    check(rt, &[b, a, c])?;
+    check(rt, &[a, request(184, 185), request(369, 67)])?;
+    check(rt, &[a, request(186, 184), c])?;
+    check(rt, &[request(0, 186), request(186, 184), c])?;
+    check(rt, &[request(5, 0), a, b, c])?;
+    check(rt, &[a, b, request(5, 0), c])?;
+    check(rt, &[a, b, c, request(5, 0)])?;
+    check(rt, &[a, b, c, request(436, 0)])?;
+    check(rt, &[request(437, 0), a, b, c])?;
+    print_judged(rt, planner::look_none(65516, 1500))
 }
 
-fn checks() {
-    say_judged(planner::look_none(3488, 1500));
-    check_three(0, 185, 185, 185, 370, 66);
-    check_three(0, 185, 185, 185, 370, 65535);
-    check_three(185, 185, 0, 185, 370, 66);
-    check_three(0, 185, 184, 185, 369, 67);
-    check_three(0, 185, 186, 184, 370, 66);
-    check_three(0, 186, 186, 184, 370, 66);
-    check_four(5, 0, 0, 185, 185, 185, 370, 66);
-    check_four(0, 185, 185, 185, 5, 0, 370, 66);
-    check_four(0, 185, 185, 185, 370, 66, 5, 0);
-    check_four(0, 185, 185, 185, 370, 66, 436, 0);
-    check_four(437, 0, 0, 185, 185, 185, 370, 66);
-    say_judged(planner::look_none(65516, 1500));
-}
-
-fn main() {
-    lists();
-    checks();
+fn main(rt: HostRuntime) -> Result<(), Error> {
+    lists(&rt)?;
+    checks(&rt)
 }
