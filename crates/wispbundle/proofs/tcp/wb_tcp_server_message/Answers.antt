@@ -1,6 +1,0 @@
--- What the wrapped call answers is told to C.
-use Rattle.wispbundle.proofs.Calls.{tcp_sends}
-use Rattle.wispbundle.proofs.tcp.wb_tcp_server_message.Goals as goal
-
-pub returns : goal.returns
-returns c = search tcp_sends
