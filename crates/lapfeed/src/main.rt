@@ -168,6 +168,6 @@ fn start(rt: &(impl Print + Eprint + Input), mut args: Args) {
 fn main(rt: HostRuntime) {
     match env::args(&rt) {
         Ok(args) => start(&rt, args),
-        Err(e) => say_failed(&rt, "the words", e),
+        Err(_) => say_wanted(&rt),
     }
 }

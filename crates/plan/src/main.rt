@@ -158,6 +158,6 @@ fn main(rt: HostRuntime) {
                 say_failed(&rt, "standard output", e);
             }
         }
-        Err(e) => say_failed(&rt, "the words", e),
+        Err(_) => say_wanted(&rt),
     }
 }
