@@ -88,7 +88,6 @@ fn not_ipv4(packet: &[u8]) -> bool
 }
 
 // The header of a packet that is all there, whatever its checksum.
-#[tactic(auto, using(crate::proofs::Reading::ipv4_least), unfolding(crate::specs::Header::frame_answer))]
 pub fn frame(packet: &[u8]) -> Result<IpRead, Refusal>
     ensures { says result ≡ frame_answer packet.now }
 {
