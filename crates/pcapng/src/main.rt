@@ -1,13 +1,11 @@
 // Exports a capture: the classic capture on standard input goes to standard output as pcapng.
 #![tactic(auto)]
 
-ghost use Rattle.std.specs.Prelude.{◌≤◌, length, IfOk};
-
 use pkt::refusal::{ListRefusal, Refusal};
 use std::alloc::AllocError;
 use std::env::FillError;
 use std::fmt::Display;
-use std::io::{Error, Read};
+use std::io::Read;
 use std::rt::Env;
 
 // The bytes of the longest capture that is taken.
@@ -21,20 +19,6 @@ const MOST_WRITTEN: usize = 48 + 36 * (MOST - 24) / 17;
 // Says on standard error what failed, and why.
 fn say_failed(rt: &impl Eprint, what: &str, e: impl Display + Drop) {
     let _ = eprintln!(rt; "pcapng: {what}: {e}");
-}
-
-// Reads until the buffer is full or the input ends, and answers how many bytes that were.
-fn fill(from: &mut impl Read, buf: &mut [u8]) -> Result<usize, Error>
-    ensures { IfOk result (λ n. n ≤ length buf.new) }
-{
-    let mut n = 0;
-    while n < buf.len() {
-        match from.read(&mut buf[n..])? {
-            0 => break,
-            more => n += more,
-        }
-    }
-    Ok(n)
 }
 
 // Why nothing is written.
@@ -84,13 +68,13 @@ fn export(rt: &(impl Print + Eprint + AllocGlobal), capture: &[u8]) -> Result<()
 
 // Reads a capture, and exports it; a byte more than the longest has shows that there is more.
 fn run(rt: &(impl Print + Eprint + Input + AllocGlobal)) -> Result<(), AllocError> {
-    let mut input = vec![in rt.alloc(); 0u8; MOST + 1]?;
-    match fill(&mut rt.reader(), &mut input) {
+    let mut input = Vec::new(rt.alloc());
+    match rt.reader().take(MOST as u64 + 1).read_to_end(&mut input) {
         Err(e) => say_failed(rt, "standard input", e),
         Ok(n) if MOST < n => {
             let _ = rt.eprintln("pcapng: more than 2,097,152 bytes of input");
         }
-        Ok(n) => export(rt, &input[0..n])?,
+        Ok(_) => export(rt, &input)?,
     }
     Ok(())
 }
