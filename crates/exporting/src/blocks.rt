@@ -51,7 +51,7 @@ fn zeros(n: usize) -> usize
     (4 - n % 4) % 4
 }
 
-// The bytes of a block with a packet of n bytes.
+// The bytes of a block with a packet of n bytes. (The bound is asked here and below, and is no invariant of Spot, whose fields are public.)
 #[tactic(auto, unfolding(crate::specs::Pcapng::padding, crate::specs::Steps::block_size))]
 pub(crate) fn size(n: usize) -> usize
     requires { n ≤ most_bytes }
@@ -60,7 +60,7 @@ pub(crate) fn size(n: usize) -> usize
     32 + n + zeros(n)
 }
 
-// A block's bytes before the packet: its type, its size, the interface, the time, and both lengths.
+// A block's bytes before the packet: its type, its size, the interface, the time in two words, the high one first, and both lengths.
 fn packet_head(sec: u32, usec: u32, n: u32, original: u32, size: u32) -> [u8; 28]
     ensures { result ≡ packet_head sec usec n original size }
 {

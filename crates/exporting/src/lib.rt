@@ -85,7 +85,8 @@ fn ended_by(
     answer
 }
 
-// What export answers for an output of room bytes, with nothing written.
+// What export answers for an output of room bytes, with nothing written. A while, here and below: records have different lengths, and a capture is read
+// by steps, as the scope paper asks, and by no iterator.
 fn answer(capture: &[u8], room: usize) -> Result<usize, ListRefusal>
     ensures { list_says result ≡ export_answer capture.now room }
 {

@@ -25,7 +25,7 @@ pub struct TcpSegment {
 }
 
 impl TcpSegment {
-    // The segment's TCP header.
+    // The segment's TCP header. (No From: hdr is public, with a promise of its own.)
     pub fn hdr(self) -> tcp_hdr
         ensures { result ≡ tcp_hdr_of self }
     {

@@ -54,6 +54,8 @@ impl IcmpFlow {
         Self { marks, ..self }
     }
 
+    // echo and echo_reply are two, since each moves a number of its own: what they have in common is send.
+
     // The client's next echo, carrying bytes, at the start of out; the ping number moves on.
     pub fn echo(self, bytes: &[u8], out: &mut [u8]) -> Result<EchoSent, Refusal>
         ensures { Echoed (ping_of self) (pinged self) bytes.now out.old result out.new }

@@ -42,7 +42,7 @@ pub fn fragment(
     build::build(Request::Piece(IpPiece { template, off, len }), payload, out)
 }
 
-// All of the payload from block off.
+// All of the payload from block off. (The length is told modulo 65,536, as tail_of tells it: a longer payload is refused whatever it is.)
 pub fn tail(template: Template, payload: &[u8], off: u16, out: &mut [u8]) -> Result<usize, Refusal>
     ensures { Answered (tail_of template off (length payload.now)) payload.now out.old result out.new }
 {

@@ -29,11 +29,11 @@ pub struct Marks {
     pub ttl: u8,
 }
 
-impl Marks {
+impl Default for Marks {
+    ghost is_default = { λ m. m ≡ unmarked };
+
     // Those of a new flow: a type of service of 0, and a time to live of 64.
-    pub fn default() -> Self
-        ensures { result ≡ unmarked }
-    {
+    fn default() -> Self {
         let ip = ip_hdr::default();
         Self {
             tos: ip.tos,

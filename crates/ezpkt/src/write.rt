@@ -48,6 +48,7 @@ fn flow_ip(marks: Marks, protocol: u8, size: u16, frag_off: u16, saddr: u32, dad
     ip.to_bytes()
 }
 
+// tcp, udp and echo stay three, as the checksums do: header, sum, protocol and flags field all differ.
 fn tcp(t: TcpSegment, payload: &[u8], out: &mut [u8])
     requires { (length payload.now ≤ most_tcp) × (40 + length payload.now ≤ length out.old) }
     ensures { out.new ≡ written (tcp_packet t payload.now) out.old }
@@ -142,6 +143,7 @@ fn bit(on: bool, n: u16) -> u16
     if on { n } else { 0 }
 }
 
+// The bound of the offset is asked here and below, and is no invariant of IpPiece: it crosses to C with any offset, and 2 refuses it.
 fn piece_flags(q: IpPiece, more: bool) -> u16
     requires { q.off ≤ 8191 }
     ensures { result ≡ piece_flags q more }

@@ -148,7 +148,7 @@ fn datagram(feed: Feed, bytes: &[u8], scratch: &mut [u8])
     let _ = build::build(Request::Udp(dgram(feed)), bytes, scratch);
 }
 
-// The record of a piece, at the start of out: how many bytes it has.
+// The record of a piece, at the start of out: how many bytes it has. (Template, payload, time and output go apart, as the calls below take them.)
 fn put(
     template: Template,
     payload: &[u8],

@@ -7,6 +7,8 @@ ghost use Rattle.packet.specs.Dump.{digit_of, numeral, digits_of, space, hexes, 
 use crate::put::fill;
 use pkt::copying::copy;
 
+// Digits are written by hand, and not by Display: they go into a lent buffer at places that are known.
+
 // The digit of a number below 16.
 fn digit(d: usize) -> u8
     requires { d < 16 }
@@ -31,7 +33,7 @@ fn put_number(base: usize, k: usize, x: usize, out: &mut [u8])
     }
 }
 
-// How many decimal digits x has.
+// How many decimal digits x has. A while: it divides until one digit is left, and counts no index.
 fn digits(x: usize) -> usize
     requires { x ≤ 1048576 }
     ensures { (result ≡ digits_of x) × (result ≤ 1 + x) }
@@ -151,7 +153,8 @@ pub(crate) fn size(n: usize) -> usize
     digits(n) + 14 + 57 * ((n + 15) / 16) + n
 }
 
-// The dump of the bytes l, the first of which stands at the place pos of the buffer.
+// The dump of the bytes l, the first of which stands at the place pos of the buffer. (pos and l go apart here and above: a struct of both would be
+// taken apart in each of the five.)
 pub(crate) fn put_dump(pos: usize, l: &[u8], out: &mut [u8])
     requires { (pos + length l.now ≤ 1048576) × (digits_of (length l.now) + 14 + 57 * ((length l.now + 15) / 16) + length l.now ≤ length out.old) }
     ensures { out.new ≡ written (dump_bytes pos l.now) out.old }

@@ -18,7 +18,8 @@ use pkt::refusal::Refusal;
 // No packet ends behind this place.
 const MOST_END: usize = 1048576;
 
-// A packet: the bytes of the buffer from the headroom up to, not including, the end.
+// A packet: the bytes of the buffer from the headroom up to, not including, the end. A lent buffer and places in it, as the scope paper has it, and no
+// Vec or slice: it crosses to C.
 #[repr(C)]
 #[derive(Clone, Copy, Drop)]
 pub struct Packet {
@@ -183,11 +184,7 @@ impl Packet {
     pub fn is_empty(self, buf: &[u8]) -> Result<bool, Refusal>
         ensures { says result ≡ if_valid self (length buf.now) (gives (eqb (len_of self) 0)) }
     {
-        if is_valid(self, buf.len()) {
-            Ok(self.end - self.headroom == 0)
-        } else {
-            Err(Refusal::BadPart)
-        }
+        Ok(self.len(buf)? == 0)
     }
 
     // How many bits the packet takes on the wire, 24 bytes around it counted in.
@@ -195,12 +192,7 @@ impl Packet {
     pub fn bit_time(self, buf: &[u8]) -> Result<usize, Refusal>
         ensures { says result ≡ if_valid self (length buf.now) (gives (bit_time_of self)) }
     {
-        if is_valid(self, buf.len()) {
-            let len = self.end - self.headroom;
-            Ok((len + 24) * 8)
-        } else {
-            Err(Refusal::BadPart)
-        }
+        Ok((self.len(buf)? + 24) * 8)
     }
 
     // The whole packet as a part.
@@ -315,11 +307,7 @@ impl Packet {
     pub fn hex_dump_len(self, buf: &[u8]) -> Result<usize, Refusal>
         ensures { says result ≡ if_valid self (length buf.now) (gives (length (dump_of self buf.now))) }
     {
-        if is_valid(self, buf.len()) {
-            Ok(dump::size(self.end - self.headroom))
-        } else {
-            Err(Refusal::BadPart)
-        }
+        Ok(dump::size(self.len(buf)?))
     }
 
     // The hex dump of the packet at the start of out.

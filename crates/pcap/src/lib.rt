@@ -33,7 +33,7 @@ pub fn write_header(out: &mut [u8]) -> Result<usize, Refusal>
     Ok(24)
 }
 
-// The header of a record, of a packet of n bytes that is captured whole.
+// The header of a record, of a packet of n bytes that is captured whole. (sec and usec go apart: the public calls and those of C take them so.)
 #[tactic(auto, using(crate::proofs::Pcap::header_is))]
 pub fn record_header(sec: u32, usec: u32, n: u32) -> [u8; 16]
     ensures { result ≡ record_header sec usec n }

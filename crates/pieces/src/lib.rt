@@ -62,6 +62,8 @@ fn answer(list: &[BlockRequest], n: usize, room: usize, places: usize) -> Result
     Ok(room - left)
 }
 
+// template, payload, out and ends go apart, as fragments takes them: document 02 lends the ends in a list of their own.
+
 // One packet more behind the first at bytes of out, and its end at index i: that end.
 fn put(
     template: Template,

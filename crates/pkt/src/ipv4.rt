@@ -10,6 +10,7 @@ ghost use Rattle.pkt.specs.Answers.{says, csum_answer, tcp_answer, udp_answer, e
 use crate::refusal::Refusal;
 use crate::{csum, limit};
 
+// Numbers on the wire, by the Rust's public names, and no enums: a header's field may hold any number.
 pub mod proto {
     pub const ICMP: u8 = 1;
 
@@ -41,11 +42,11 @@ pub struct ip_hdr {
     pub daddr: u32,
 }
 
-impl ip_hdr {
+impl Default for ip_hdr {
+    ghost is_default = { λ h. h ≡ ip_default };
+
     // TOS 0, id 0 and TTL 64, the length of a header alone, and 0 for the rest.
-    pub fn default() -> Self
-        ensures { result ≡ ip_default }
-    {
+    fn default() -> Self {
         Self {
             tos: 0,
             tot_len: 20,
@@ -57,7 +58,9 @@ impl ip_hdr {
             daddr: 0,
         }
     }
+}
 
+impl ip_hdr {
     // The header, with this number for its checksum.
     fn with_csum(self, csum: u16) -> [u8; 20]
         ensures { result ≡ ip_bytes self csum }
@@ -294,7 +297,7 @@ pub fn ip_csum(buf: &[u8]) -> Result<u16, Refusal>
     Ok(csum::ip_csum_fold(csum::ip_csum_partial(buf)))
 }
 
-// The sum of an address's two words.
+// The sum of an address's two words, which are told by division, as its promise tells them.
 fn address(addr: u32) -> u16
     ensures { result ≡ canon (addr / 65536 + addr % 65536) }
 {

@@ -67,6 +67,7 @@ pub fn look_none(n: usize, m: usize) -> Look
     }
 }
 
+// start_of and end_of are ezpkt's span_of, which is inside its private writer.
 fn start_of(r: BlockRequest, n: usize) -> usize
     ensures { result ≡ start_at r.off n }
 {
@@ -186,7 +187,8 @@ fn plan_answer(n: usize, m: usize, places: usize) -> Result<usize, Refusal>
     Ok(fewest)
 }
 
-// What is decided for a list of so many places.
+// What is decided for a list of so many places. (n and m go apart, here and above: five of these calls are public. The blocks are told modulo 65,536,
+// as job_for tells them, and so is what nth gives of any job.)
 pub fn decide(n: usize, m: usize, places: usize) -> Result<Job, Refusal>
     ensures { Decided n m places result }
 {

@@ -1,5 +1,5 @@
 // Captures read through a reader that holds the lent capture and its place, or on a slice and a place. The work is done on a slice and numbers;
-// what is done with a reader takes it apart.
+// what is done with a reader takes it apart. Both are the scope paper's forms, and the slice, the place and the count go apart so.
 #![tactic(auto)]
 
 ghost use Rattle.std.specs.Prelude.{◌≡◌, ◌+◌, ◌≤◌, false, length, drop};

@@ -23,7 +23,7 @@ pub const PACKETS: usize = 1000000;
 const HALF: u32 = 0x80000000;
 
 // What one side sent: segments, payload bytes, SYNs, FINs, how many segments arrived as expected, early and late, and the sequence number that is
-// expected next, which is 0 before the first segment.
+// expected next, which is 0 before the first segment. (No Option: that there was none is told by segments, and nothing reads next then.)
 #[derive(Clone, Copy, Default, Drop)]
 pub struct Tally {
     pub segments: usize,
@@ -144,6 +144,9 @@ fn goes(from: SocketAddrV4, to: SocketAddrV4, a: SocketAddrV4, b: SocketAddrV4) 
 {
     from == a && to == b
 }
+
+// cl and sv go apart here and below, as flow_report is asked: document 02 names a client and a server, and a lent byte slice and the end of each packet in
+// it.
 
 // The class of a segment between two ends, for the flow between cl and sv.
 fn sided(

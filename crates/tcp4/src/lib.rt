@@ -35,7 +35,7 @@ pub struct TcpFlow {
     pub marks: Marks,
 }
 
-// The flow after one, two or three packets, and where each packet ends.
+// The flow after one, two or three packets, and where each packet ends. Cases, and no list of ends: how many packets a call sends is told by its case.
 #[derive(Clone, Copy, Drop)]
 pub enum Sent {
     One(TcpFlow, usize),
@@ -186,7 +186,7 @@ impl TcpFlow {
         }
     }
 
-    // Writes one packet, and moves its side's number on.
+    // Writes one packet, and moves its side's number on. (side, flags and frag_off go apart: a struct would be made once and read once.)
     fn tx(self, side: Side, flags: u8, frag_off: u16, payload: &[u8], out: &mut [u8]) -> Self
         requires { (length payload.now ≤ most_tcp) × (40 + length payload.now ≤ length out.old) }
         ensures { SendsOne self (emit side flags frag_off payload.now) out.old result out.new }

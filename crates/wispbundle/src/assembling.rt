@@ -10,6 +10,8 @@ ghost use Rattle.wispbundle.specs.Calls.{AssemblyOpens, AssemblyTakes};
 use assembly::{Key, Outcome, Progress, Rec, Taken};
 use pkt::refusal::Refusal;
 
+// Outcomes as numbers, since no enum crosses to C.
+
 // Bytes are still missing.
 pub const WAITING: u8 = 1;
 // All bytes are there.
@@ -114,6 +116,7 @@ impl From<Result<Rec, Refusal>> for wb_opened {
     }
 }
 
+// (No From: neither type is of this crate.)
 fn outcome(answer: Outcome) -> u8
     ensures { result ≡ outcome_for answer }
 {
@@ -124,6 +127,7 @@ fn outcome(answer: Outcome) -> u8
     }
 }
 
+// (No From, here and where a flow is sent: a refusal hands back what came in, too.)
 fn taken(before: wb_assembly, answer: Result<Taken, Refusal>) -> wb_taken
     ensures { result ≡ taken_for before (says answer) }
 {

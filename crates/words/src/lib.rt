@@ -10,7 +10,7 @@ use ezpkt::{SocketAddrV4, part};
 // The bytes of the longest good word, 255.255.255.255:65535.
 pub const LONGEST: usize = 21;
 
-// Digits, up to a number.
+// Digits, up to a number. (No parse, here and below: it takes +5 and 05, which are wrong here.)
 fn digits(w: &[u8], most: u16) -> Option<u16>
     ensures { result ≡ digits_in most 0 w.now }
 {

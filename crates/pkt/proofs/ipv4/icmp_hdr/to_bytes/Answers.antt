@@ -1,7 +1,6 @@
 -- The bytes are the fields; one-byte fields are their own remainder.
-use Rattle.std.proofs.Common.{◌≡◌, ◌%◌, ◌∙◌, rules}
+use Rattle.std.proofs.Common.{◌≡◌, ◌%◌, rules}
 use Rattle.pkt.specs.Rfc792.{echo_header}
-use Rattle.pkt.proofs.Fields.{be_four}
 use Rattle.pkt.proofs.ipv4.icmp_hdr.to_bytes.Goals as goal
 
 pub returns : goal.returns
