@@ -130,7 +130,7 @@ fn laps(rt: &impl Print) -> io::Result<()> {
 const SEGMENT: [u8; 85] =
     *b"\x4f\x00\x00\x54\x00\x00\x00\x00\x40\x06\x65\x57\x0a\x00\x00\x01\x0a\x00\x00\x02\x01\x07\x27\x28\xc0\xa8\x01\x01\xc0\xa8\x01\x02\xc0\xa8\x01\x03\xc0\xa8\x01\x04\xc0\xa8\x01\x05\xc0\xa8\x01\x06\xc0\xa8\x01\x07\xc0\xa8\x01\x08\xc0\xa8\x01\x09\x9c\x40\x00\x50\x00\x00\x03\xe8\x00\x00\x00\x00\x50\x18\xff\xff\x1e\xcb\x00\x00\x6c\x61\x70\x21\xff";
 
-// The segment with total lengths that cut it, leave it out, and cut the options.
+// The segment, and with another byte in the options and in it.
 fn segments(rt: &impl Print) -> io::Result<()> {
     changed(
         rt,
@@ -159,7 +159,11 @@ fn segments(rt: &impl Print) -> io::Result<()> {
         "with another last byte in the segment",
         83,
         b"?",
-    )?;
+    )
+}
+
+// .. with total lengths that cut it, leave it out, and cut the options.
+fn segment_lengths(rt: &impl Print) -> io::Result<()> {
     changed(
         rt,
         SEGMENT,
@@ -197,5 +201,6 @@ pub(crate) fn each(rt: &impl Print) -> io::Result<()> {
     cut(rt)?;
     echoes(rt)?;
     laps(rt)?;
-    segments(rt)
+    segments(rt)?;
+    segment_lengths(rt)
 }
