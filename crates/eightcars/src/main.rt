@@ -68,9 +68,14 @@ fn ninth(rt: &impl Print, payloads: &mut [u8], maps: &mut [u8]) -> io::Result<()
         payloads,
         maps,
     )?;
+    emptied(rt, nine, payloads, maps)
+}
+
+// Then the other seven are discarded, and all is zero.
+fn emptied(rt: &impl Print, t: [Slot; 8], payloads: &mut [u8], maps: &mut [u8]) -> io::Result<()> {
     play(
         rt,
-        nine,
+        t,
         &[
             Discard(1),
             Discard(3),
