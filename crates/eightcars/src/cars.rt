@@ -6,11 +6,18 @@ use ezpkt::{Marks, build, ip4, part};
 
 const CORE: u32 = 0x0a000064;
 
-// A packet: the first n bytes.
+// A packet: the first n bytes. (An array and a length: piece and is_telemetry make one for each call, and have no runtime to allocate by.)
 #[derive(Clone, Copy, Drop)]
 pub(crate) struct Whole {
     pub(crate) bytes: [u8; 80],
     pub(crate) n: usize,
+}
+
+impl Whole {
+    // Its bytes.
+    pub(crate) fn packet(&self) -> &[u8] {
+        part::front(&self.bytes, self.n)
+    }
 }
 
 // The car with number n has the address 10.0.0.n.
@@ -74,20 +81,16 @@ fn telemetry(car: u8) -> Whole {
 // Whether these bytes are the IPv4 payload of a car's telemetry.
 pub(crate) fn is_telemetry(car: u8, got: &[u8]) -> bool {
     let whole = telemetry(car);
-    let bytes = whole.bytes;
-    let n = whole.n;
-    got == part::back(part::front(&bytes, n), 20)
+    got == part::back(whole.packet(), 20)
 }
 
 // Two blocks from block off of the telemetry of the car `of`, as far as they are there, sent by `car`.
 pub(crate) fn piece(car: u8, of: u8, off: u16) -> [u8; 36] {
     let whole = telemetry(of);
-    let bytes = whole.bytes;
-    let n = whole.n;
     let mut out = [0u8; 36];
     let _ = ip4::fragment(
         template_of(car),
-        part::back(part::front(&bytes, n), 20),
+        part::back(whole.packet(), 20),
         off,
         2,
         &mut out,

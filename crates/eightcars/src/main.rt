@@ -5,9 +5,12 @@ mod cars;
 mod steps;
 mod words;
 
+ghost use Rattle.std.specs.Prelude.{◌<◌};
+
 use assembly::Rec;
-use ezpkt::{ip4, part};
+use ezpkt::ip4;
 use std::io;
+use steps::Step::{Discard, Far, Lie, Out, Piece, Slots, Zero};
 use steps::{hand, play, run};
 use table::Slot;
 use words::{show_refused, yes};
@@ -25,7 +28,17 @@ fn order(
     play(
         rt,
         all,
-        b"s   o1  o2  o3  o4  o5  o6  o7  o8  ",
+        &[
+            Slots,
+            Out(1),
+            Out(2),
+            Out(3),
+            Out(4),
+            Out(5),
+            Out(6),
+            Out(7),
+            Out(8),
+        ],
         payloads,
         maps,
     )?;
@@ -39,14 +52,40 @@ fn ninth(rt: &impl Print, payloads: &mut [u8], maps: &mut [u8]) -> io::Result<()
     let nine = play(
         rt,
         eight,
-        b"p90 f9  p24 p22 p90 o2  p90 s   p94 p92 o9  ",
+        &[
+            Piece(9, 0),
+            Far(9),
+            Piece(2, 4),
+            Piece(2, 2),
+            Piece(9, 0),
+            Out(2),
+            Piece(9, 0),
+            Slots,
+            Piece(9, 4),
+            Piece(9, 2),
+            Out(9),
+        ],
         payloads,
         maps,
     )?;
+    emptied(rt, nine, payloads, maps)
+}
+
+// Then the other seven are discarded, and all is zero.
+fn emptied(rt: &impl Print, t: [Slot; 8], payloads: &mut [u8], maps: &mut [u8]) -> io::Result<()> {
     play(
         rt,
-        nine,
-        b"d1  d3  d4  d5  d6  d7  d8  z   ",
+        t,
+        &[
+            Discard(1),
+            Discard(3),
+            Discard(4),
+            Discard(5),
+            Discard(6),
+            Discard(7),
+            Discard(8),
+            Zero,
+        ],
         payloads,
         maps,
     )?;
@@ -59,11 +98,32 @@ fn spoil(rt: &impl Print, payloads: &mut [u8], maps: &mut [u8]) -> io::Result<()
     let spoilt = play(
         rt,
         table::new(),
-        b"p10 o1  l10 p14 p12 o1  ",
+        &[
+            Piece(1, 0),
+            Out(1),
+            Lie(1, 0),
+            Piece(1, 4),
+            Piece(1, 2),
+            Out(1),
+        ],
         payloads,
         maps,
     )?;
-    play(rt, spoilt, b"d1  o1  d1  p10 p14 p12 o1  ", payloads, maps)?;
+    play(
+        rt,
+        spoilt,
+        &[
+            Discard(1),
+            Out(1),
+            Discard(1),
+            Piece(1, 0),
+            Piece(1, 4),
+            Piece(1, 2),
+            Out(1),
+        ],
+        payloads,
+        maps,
+    )?;
     Ok(())
 }
 
@@ -88,7 +148,20 @@ fn rubbish(rt: &impl Print) -> io::Result<()> {
     play(
         rt,
         [free; 8],
-        b"o1  d1  p20 p10 s   p24 p22 p14 p12 o1  o2  o1  ",
+        &[
+            Out(1),
+            Discard(1),
+            Piece(2, 0),
+            Piece(1, 0),
+            Slots,
+            Piece(2, 4),
+            Piece(2, 2),
+            Piece(1, 4),
+            Piece(1, 2),
+            Out(1),
+            Out(2),
+            Out(1),
+        ],
         &mut payloads,
         &mut maps,
     )?;
@@ -138,37 +211,54 @@ fn long(
 // A slot filled to its end leaves those beside it as they are.
 fn beside(rt: &impl Print, payloads: &mut [u8], maps: &mut [u8]) -> io::Result<()> {
     println!(rt; "8,192 bytes between two others:")?;
-    let free = play(rt, table::new(), b"p10 p20 p30 d2  ", payloads, maps)?;
+    let free = play(
+        rt,
+        table::new(),
+        &[Piece(1, 0), Piece(2, 0), Piece(3, 0), Discard(2)],
+        payloads,
+        maps,
+    )?;
     let filled = long(rt, free, payloads, maps)?;
-    play(rt, filled, b"p14 p12 p34 p32 o1  o3  ", payloads, maps)?;
+    play(
+        rt,
+        filled,
+        &[
+            Piece(1, 4),
+            Piece(1, 2),
+            Piece(3, 4),
+            Piece(3, 2),
+            Out(1),
+            Out(3),
+        ],
+        payloads,
+        maps,
+    )?;
     Ok(())
 }
 
 // The three calls with this table and these buffers.
 fn calls(rt: &impl Print, t: [Slot; 8], payloads: &mut [u8], maps: &mut [u8]) -> io::Result<()> {
-    play(rt, t, b"p20 o2  d2  ", payloads, maps)?;
+    play(rt, t, &[Piece(2, 0), Out(2), Discard(2)], payloads, maps)?;
     Ok(())
 }
 
-// One byte too few, and one too many.
-fn payload_sizes(rt: &impl Print) -> io::Result<()> {
-    let mut few = [0u8; 65535];
-    let mut many = [0u8; 65537];
-    let mut maps = [0u8; 1024];
-    println!(rt; "65,535 payload bytes:")?;
-    calls(rt, table::new(), &mut few, &mut maps)?;
-    println!(rt; "65,537 payload bytes:")?;
-    calls(rt, table::new(), &mut many, &mut maps)
+// The three calls with P payload bytes and M map bytes.
+fn sized<const P: usize, const M: usize>(rt: &impl Print, words: &str) -> io::Result<()>
+    requires payloads_small { P < 65538 }
+    requires maps_small { M < 65538 }
+{
+    let mut payloads = [0u8; P];
+    let mut maps = [0u8; M];
+    println!(rt; "{words}:")?;
+    calls(rt, table::new(), &mut payloads, &mut maps)
 }
 
-fn map_sizes(rt: &impl Print) -> io::Result<()> {
-    let mut payloads = [0u8; 65536];
-    let mut few = [0u8; 1023];
-    let mut many = [0u8; 1025];
-    println!(rt; "1,023 map bytes:")?;
-    calls(rt, table::new(), &mut payloads, &mut few)?;
-    println!(rt; "1,025 map bytes:")?;
-    calls(rt, table::new(), &mut payloads, &mut many)
+// One byte too few, and one too many.
+fn sizes(rt: &impl Print) -> io::Result<()> {
+    sized::<65535, 1024>(rt, "65,535 payload bytes")?;
+    sized::<65537, 1024>(rt, "65,537 payload bytes")?;
+    sized::<65536, 1023>(rt, "1,023 map bytes")?;
+    sized::<65536, 1025>(rt, "1,025 map bytes")
 }
 
 // The three calls with two slots of which one, and perhaps the other, is car 1's.
@@ -243,10 +333,8 @@ fn router_alert(rt: &impl Print) -> io::Result<()> {
 // Hands a datagram with these flags and this offset to an empty table.
 fn placed(rt: &impl Print, words: &str, frag_off: u16, data: &[u8]) -> io::Result<()> {
     let whole = cars::datagram(1, frag_off, data);
-    let bytes = whole.bytes;
-    let n = whole.n;
     print!(rt; "{words}:")?;
-    first(rt, part::front(&bytes, n))
+    first(rt, whole.packet())
 }
 
 fn ends(rt: &impl Print) -> io::Result<()> {
@@ -279,8 +367,7 @@ fn main(rt: HostRuntime) -> io::Result<()> {
     let mut maps = [0u8; 1024];
     runs(&rt, &mut payloads, &mut maps)?;
     rubbish(&rt)?;
-    payload_sizes(&rt)?;
-    map_sizes(&rt)?;
+    sizes(&rt)?;
     records(&rt)?;
     headers(&rt)?;
     router_alert(&rt)?;

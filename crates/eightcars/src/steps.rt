@@ -6,7 +6,26 @@ use pkt::refusal::Refusal;
 use std::io;
 use table::Slot;
 
-// Hands a packet in.
+// A step.
+#[derive(Clone, Copy, Drop)]
+pub(crate) enum Step {
+    // The piece of a car's telemetry that begins at a block.
+    Piece(u8, u16),
+    // The same piece with what car 9 sends there.
+    Lie(u8, u16),
+    // A datagram of a car that ends at 8,193.
+    Far(u8),
+    // Takes the datagram of a car out.
+    Out(u8),
+    // Discards what is there of a car.
+    Discard(u8),
+    // Which car is in each slot.
+    Slots,
+    // Whether all is zero.
+    Zero,
+}
+
+// Hands a packet in. (Table and buffers go apart here and below, as the calls that are shown take them.)
 pub(crate) fn hand(
     rt: &impl Print,
     t: [Slot; 8],
@@ -20,31 +39,22 @@ pub(crate) fn hand(
     Ok(placed.table)
 }
 
-// Hands in the piece of a car's telemetry that begins at block off.
-fn send(
+// Hands in the piece that begins at block off of the telemetry of the car `of`, sent by `car`.
+fn piece(
     rt: &impl Print,
     t: [Slot; 8],
     car: u8,
+    of: u8,
     off: u16,
     payloads: &mut [u8],
     maps: &mut [u8],
 ) -> io::Result<[Slot; 8]> {
-    let packet = cars::piece(car, car, off);
-    print!(rt; "car {car} block {off}:")?;
-    hand(rt, t, &packet, payloads, maps)
-}
-
-// The same piece with what car 9 sends there.
-fn lie(
-    rt: &impl Print,
-    t: [Slot; 8],
-    car: u8,
-    off: u16,
-    payloads: &mut [u8],
-    maps: &mut [u8],
-) -> io::Result<[Slot; 8]> {
-    let packet = cars::piece(car, 9, off);
-    print!(rt; "car {car} block {off} with the data of car 9:")?;
+    let packet = cars::piece(car, of, off);
+    print!(rt; "car {car} block {off}")?;
+    if of != car {
+        print!(rt; " with the data of car {of}")?;
+    }
+    print!(rt; ":")?;
     hand(rt, t, &packet, payloads, maps)
 }
 
@@ -57,10 +67,8 @@ fn far(
     maps: &mut [u8],
 ) -> io::Result<[Slot; 8]> {
     let whole = cars::datagram(car, 1023, b"!");
-    let bytes = whole.bytes;
-    let n = whole.n;
     print!(rt; "car {car}, 9 bytes at block 1,023:")?;
-    hand(rt, t, part::front(&bytes, n), payloads, maps)
+    hand(rt, t, whole.packet(), payloads, maps)
 }
 
 // The length of what was taken out, whether it is the car's telemetry, and its words.
@@ -145,49 +153,36 @@ fn zero(rt: &impl Print, t: [Slot; 8], payloads: &[u8], maps: &[u8]) -> io::Resu
     Ok(t)
 }
 
-// The byte at a place, 0 past the end.
-fn byte(s: &[u8], i: usize) -> u8 {
-    s.get(i).copied().unwrap_or(0)
-}
-
-// The digit at a place.
-fn digit(s: &[u8], i: usize) -> u8 {
-    byte(s, i) % 16
-}
-
-// One step: its letter, the number of a car, and the block at which a piece begins.
-fn step(
+// Takes one step.
+fn take_step(
     rt: &impl Print,
     t: [Slot; 8],
-    s: &[u8],
+    s: Step,
     payloads: &mut [u8],
     maps: &mut [u8],
 ) -> io::Result<[Slot; 8]> {
-    let car = digit(s, 1);
-    let off = digit(s, 2) as u16;
-    match byte(s, 0) {
-        b'p' => send(rt, t, car, off, payloads, maps),
-        b'l' => lie(rt, t, car, off, payloads, maps),
-        b'f' => far(rt, t, car, payloads, maps),
-        b'o' => out(rt, t, car, payloads, maps),
-        b'd' => discard(rt, t, car, payloads, maps),
-        b's' => slots(rt, t),
-        _ => zero(rt, t, payloads, maps),
+    match s {
+        Step::Piece(car, off) => piece(rt, t, car, car, off, payloads, maps),
+        Step::Lie(car, off) => piece(rt, t, car, 9, off, payloads, maps),
+        Step::Far(car) => far(rt, t, car, payloads, maps),
+        Step::Out(car) => out(rt, t, car, payloads, maps),
+        Step::Discard(car) => discard(rt, t, car, payloads, maps),
+        Step::Slots => slots(rt, t),
+        Step::Zero => zero(rt, t, payloads, maps),
     }
 }
 
-// Steps of four letters each: a piece (p), a lie (l), one too far (f), a datagram out (o), discarding (d), what is in the slots (s), or
-// whether all is zero (z).
+// Takes steps, one after the other.
 pub(crate) fn play(
     rt: &impl Print,
     t: [Slot; 8],
-    s: &[u8],
+    steps: &[Step],
     payloads: &mut [u8],
     maps: &mut [u8],
 ) -> io::Result<[Slot; 8]> {
     let mut now = t;
-    for i in 0..s.len() / 4 {
-        let after = step(rt, now, part::back(s, 4 * i), payloads, maps)?;
+    for s in steps {
+        let after = take_step(rt, now, *s, payloads, maps)?;
         now = after;
     }
     Ok(now)
@@ -201,7 +196,8 @@ fn send_at(
     payloads: &mut [u8],
     maps: &mut [u8],
 ) -> io::Result<[Slot; 8]> {
-    send(rt, t, 1 + p / 3, 2 * (p % 3) as u16, payloads, maps)
+    let car = 1 + p / 3;
+    piece(rt, t, car, car, 2 * (p % 3) as u16, payloads, maps)
 }
 
 fn next(p: u8, by: u8) -> u8 {

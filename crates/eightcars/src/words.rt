@@ -7,6 +7,7 @@ pub(crate) fn show_refused(rt: &impl Print, refusal: Refusal) -> io::Result<()> 
     print!(rt; " refused {}", refusal.number())
 }
 
+// By a match, and no Display: the type is a library's, and each program has its own words for it.
 pub(crate) fn show_stepped(rt: &impl Print, answer: Result<Outcome, Refusal>) -> io::Result<()> {
     match answer {
         Ok(Outcome::Waiting) => print!(rt; " waiting"),

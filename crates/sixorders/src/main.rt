@@ -14,6 +14,7 @@ const CLIENT: u32 = 0x0a000001;
 
 const SERVER: u32 = 0x0a000002;
 
+// By a match, and no Display: the type is a library's, and each program has its own words for it.
 fn show_outcome(rt: &impl Print, outcome: Outcome) -> io::Result<()> {
     match outcome {
         Outcome::Waiting => print!(rt; " waiting"),
@@ -41,15 +42,16 @@ fn kept(rec: Rec, taken: Result<Taken, Refusal>) -> Rec {
     }
 }
 
-// A complete datagram: as many of the payload buffer's first bytes as `progress` answers.
+// A complete datagram from a place on: as many of the payload buffer's first bytes as `progress` answers.
 fn show_held(
     rt: &impl Print,
     progress: Result<Progress, Refusal>,
     payload: &[u8],
+    from: usize,
 ) -> io::Result<()> {
     if let Ok(Progress::Complete(n)) = progress {
         print!(rt; ", holds ")?;
-        rt.write_all(part::front(payload, n))?;
+        rt.write_all(part::back(part::front(payload, n), from))?;
     }
     Ok(())
 }
@@ -85,19 +87,24 @@ fn template() -> Template {
     template_of(6)
 }
 
-// Builds piece (off, 1) of twenty bytes and hands it in, with what stands behind it in its buffer.
-fn hand(
+// Hands a packet in, and says what came of it. (rec, payload and map go apart, as the calls that are shown take them.)
+fn handed(
     rt: &impl Print,
     rec: Rec,
-    off: u16,
+    packet: &[u8],
     payload: &mut [u8],
     map: &mut [u8],
 ) -> io::Result<Rec> {
-    let mut out = [0u8; 40];
-    let _ = ip4::fragment(template(), b"01234567890123456789", off, 1, &mut out);
-    let taken = assembly::take(rec, &out, payload, map);
+    let taken = assembly::take(rec, packet, payload, map);
     show_taken(rt, taken)?;
     Ok(kept(rec, taken))
+}
+
+// Piece (off, 1) of twenty bytes, with what stands behind it in its buffer.
+fn digits(off: u16) -> [u8; 40] {
+    let mut out = [0u8; 40];
+    let _ = ip4::fragment(template(), b"01234567890123456789", off, 1, &mut out);
+    out
 }
 
 // Three pieces of twenty bytes, and what is held then.
@@ -108,10 +115,10 @@ fn order(rt: &impl Print, a: u16, b: u16, c: u16) -> io::Result<()> {
     match assembly::open(key(), &mut payload, &mut map) {
         Err(refusal) => show_refused(rt, refusal)?,
         Ok(rec) => {
-            let one = hand(rt, rec, a, &mut payload, &mut map)?;
-            let two = hand(rt, one, b, &mut payload, &mut map)?;
-            let three = hand(rt, two, c, &mut payload, &mut map)?;
-            show_held(rt, assembly::progress(three, &payload, &map), &payload)?;
+            let one = handed(rt, rec, &digits(a), &mut payload, &mut map)?;
+            let two = handed(rt, one, &digits(b), &mut payload, &mut map)?;
+            let three = handed(rt, two, &digits(c), &mut payload, &mut map)?;
+            show_held(rt, assembly::progress(three, &payload, &map), &payload, 0)?;
         }
     }
     println!(rt; "")
@@ -206,29 +213,21 @@ fn cut_short(rt: &impl Print) -> io::Result<()> {
     first(rt, &whole[0..40])
 }
 
-// First bytes that are not 0x45: with 0x46 the first four bytes of the segment stand for options.
-fn first_byte(rt: &impl Print) -> io::Result<()> {
+// A segment with another byte at one place of its header.
+fn changed(rt: &impl Print, words: &str, i: usize, byte: u8) -> io::Result<()> {
+    let at = i % 20;
     let mut out = segment(CLIENT, 0);
-    out[0] = 0x44;
-    print!(rt; "first byte 0x44:")?;
-    first(rt, &out)?;
-    out[0] = 0x46;
-    print!(rt; "first byte 0x46:")?;
+    out[at] = byte;
+    print!(rt; "{words}:")?;
     first(rt, &out)
 }
 
-fn total_length(rt: &impl Print) -> io::Result<()> {
-    let mut out = segment(CLIENT, 0);
-    out[3] = 19;
-    print!(rt; "total length 19:")?;
-    first(rt, &out)
-}
-
-fn time_to_live(rt: &impl Print) -> io::Result<()> {
-    let mut out = segment(CLIENT, 0);
-    out[8] = 63;
-    print!(rt; "another TTL under the same checksum:")?;
-    first(rt, &out)
+// With 0x46 the first four bytes of the segment stand for options.
+fn headers(rt: &impl Print) -> io::Result<()> {
+    changed(rt, "first byte 0x44", 0, 0x44)?;
+    changed(rt, "first byte 0x46", 0, 0x46)?;
+    changed(rt, "total length 19", 3, 19)?;
+    changed(rt, "another TTL under the same checksum", 8, 63)
 }
 
 fn sent(rt: &impl Print, saddr: u32, frag_off: u16) -> io::Result<()> {
@@ -258,10 +257,7 @@ fn pieces(rt: &impl Print) -> io::Result<()> {
 
 // The reserved bit: 18, behind 7 and before 8 and 9.
 fn reserved(rt: &impl Print) -> io::Result<()> {
-    let mut out = segment(CLIENT, 0);
-    out[6] = 0x80;
-    print!(rt; "the reserved bit set under the same checksum:")?;
-    first(rt, &out)?;
+    changed(rt, "the reserved bit set under the same checksum", 6, 0x80)?;
     print!(rt; "the reserved bit set:")?;
     sent(rt, CLIENT, 0x8000)?;
     print!(rt; "the reserved bit set, and another source:")?;
@@ -299,6 +295,7 @@ fn lap() -> [u8; 52] {
     out
 }
 
+// The protocol's number, since key_of and template_of take it.
 fn datagram(protocol: u8) -> [u8; 52] {
     if protocol == 1 {
         return ping();
@@ -320,45 +317,18 @@ fn piece_of(protocol: u8, off: u16, len: u16) -> [u8; 36] {
     out
 }
 
-fn hand_piece(
-    rt: &impl Print,
-    rec: Rec,
-    protocol: u8,
-    off: u16,
-    payload: &mut [u8],
-    map: &mut [u8],
-) -> io::Result<Rec> {
-    let out = piece_of(protocol, off, 2);
-    let taken = assembly::take(rec, &out, payload, map);
-    show_taken(rt, taken)?;
-    Ok(kept(rec, taken))
-}
-
-// What a complete datagram carries behind its 8 bytes of header.
-fn show_data(
-    rt: &impl Print,
-    progress: Result<Progress, Refusal>,
-    payload: &[u8],
-) -> io::Result<()> {
-    if let Ok(Progress::Complete(n)) = progress {
-        print!(rt; ", holds ")?;
-        rt.write_all(part::back(part::front(payload, n), 8))?;
-    }
-    Ok(())
-}
-
-// The pieces of both datagrams, mixed, for the assembly of one protocol.
+// The pieces of both datagrams, mixed, for the assembly of one protocol, and what it holds behind 8 bytes of header.
 fn mixed(rt: &impl Print, protocol: u8) -> io::Result<()> {
     let mut payload = [0u8; 65515];
     let mut map = [0u8; 1024];
     match assembly::open(key_of(protocol), &mut payload, &mut map) {
         Err(refusal) => show_refused(rt, refusal)?,
         Ok(rec) => {
-            let one = hand_piece(rt, rec, 1, 0, &mut payload, &mut map)?;
-            let two = hand_piece(rt, one, 17, 2, &mut payload, &mut map)?;
-            let three = hand_piece(rt, two, 17, 0, &mut payload, &mut map)?;
-            let four = hand_piece(rt, three, 1, 2, &mut payload, &mut map)?;
-            show_data(rt, assembly::progress(four, &payload, &map), &payload)?;
+            let one = handed(rt, rec, &piece_of(1, 0, 2), &mut payload, &mut map)?;
+            let two = handed(rt, one, &piece_of(17, 2, 2), &mut payload, &mut map)?;
+            let three = handed(rt, two, &piece_of(17, 0, 2), &mut payload, &mut map)?;
+            let four = handed(rt, three, &piece_of(1, 2, 2), &mut payload, &mut map)?;
+            show_held(rt, assembly::progress(four, &payload, &map), &payload, 8)?;
         }
     }
     println!(rt; "")
@@ -377,9 +347,7 @@ fn main(rt: HostRuntime) -> io::Result<()> {
     sizes(&rt)?;
     records(&rt)?;
     cut_short(&rt)?;
-    first_byte(&rt)?;
-    total_length(&rt)?;
-    time_to_live(&rt)?;
+    headers(&rt)?;
     pieces(&rt)?;
     reserved(&rt)?;
     both(&rt)?;

@@ -1,7 +1,6 @@
 // A lap in three pieces, with router alert on some of them, in every order.
-use crate::{first, kept, key_of, piece_of, show_data, show_taken};
-use assembly::{Rec, Taken};
-use pkt::refusal::Refusal;
+use crate::{first, handed, key_of, piece_of, show_held};
+use assembly::Rec;
 use std::io;
 
 // The lap's piece at block 0, 1 or 2, with router alert: a block, and eight bytes that do not count; the last has two blocks.
@@ -19,7 +18,7 @@ fn alerted(off: u16) -> [u8; 40] {
     }
 }
 
-// Whether the piece at a block has router alert, by a choice among eight.
+// Whether the piece at a block has router alert, by a choice among eight. (A number, and no three flags: choices counts through all eight.)
 fn has_alert(choice: u8, off: u16) -> bool {
     match off {
         0 => choice % 2 == 1,
@@ -28,23 +27,7 @@ fn has_alert(choice: u8, off: u16) -> bool {
     }
 }
 
-// Takes the lap's piece at a block, with router alert or without.
-fn take_lap(
-    rec: Rec,
-    choice: u8,
-    off: u16,
-    payload: &mut [u8; 65515],
-    map: &mut [u8; 1024],
-) -> Result<Taken, Refusal> {
-    if has_alert(choice, off) {
-        let longer = alerted(off);
-        return assembly::take(rec, &longer, payload, map);
-    }
-    let plain = piece_of(17, off, off / 2 + 1);
-    assembly::take(rec, &plain, payload, map)
-}
-
-// .. and says what came of it.
+// Hands in the lap's piece at a block, with router alert or without.
 fn hand_lap(
     rt: &impl Print,
     rec: Rec,
@@ -53,9 +36,10 @@ fn hand_lap(
     payload: &mut [u8; 65515],
     map: &mut [u8; 1024],
 ) -> io::Result<Rec> {
-    let taken = take_lap(rec, choice, off, payload, map);
-    show_taken(rt, taken)?;
-    Ok(kept(rec, taken))
+    if has_alert(choice, off) {
+        return handed(rt, rec, &alerted(off), payload, map);
+    }
+    handed(rt, rec, &piece_of(17, off, off / 2 + 1), payload, map)
 }
 
 // The lap's assembly, opened.
@@ -74,16 +58,16 @@ fn opened(payload: &mut [u8; 65515], map: &mut [u8; 1024]) -> Rec {
 fn three(
     rt: &impl Print,
     choice: u8,
-    a: u16,
-    b: u16,
-    c: u16,
+    order: [u16; 3],
     payload: &mut [u8; 65515],
     map: &mut [u8; 1024],
 ) -> io::Result<Rec> {
-    let rec = opened(payload, map);
-    let one = hand_lap(rt, rec, choice, a, payload, map)?;
-    let two = hand_lap(rt, one, choice, b, payload, map)?;
-    hand_lap(rt, two, choice, c, payload, map)
+    let mut now = opened(payload, map);
+    for off in order {
+        let after = hand_lap(rt, now, choice, off, payload, map)?;
+        now = after;
+    }
+    Ok(now)
 }
 
 // Where router alert is.
@@ -95,7 +79,8 @@ fn show_alert(rt: &impl Print, choice: u8, off: u16) -> io::Result<()> {
 }
 
 // Which pieces have router alert, and the order.
-fn show_order(rt: &impl Print, choice: u8, a: u16, b: u16, c: u16) -> io::Result<()> {
+fn show_order(rt: &impl Print, choice: u8, order: [u16; 3]) -> io::Result<()> {
+    let [a, b, c] = order;
     print!(rt; "router alert on")?;
     if choice == 0 {
         print!(rt; " none")?;
@@ -122,20 +107,20 @@ fn show_same(rt: &impl Print, same: bool) -> io::Result<()> {
 
 // What a complete lap carries.
 fn show_lap(rt: &impl Print, rec: Rec, payload: &[u8; 65515], map: &[u8; 1024]) -> io::Result<()> {
-    show_data(rt, assembly::progress(rec, payload, map), payload)?;
+    show_held(rt, assembly::progress(rec, payload, map), payload, 8)?;
     println!(rt; "")
 }
 
 // The pieces with router alert and as they are, and whether both end in the same state.
-fn beside(rt: &impl Print, choice: u8, a: u16, b: u16, c: u16) -> io::Result<()> {
+fn beside(rt: &impl Print, choice: u8, order: [u16; 3]) -> io::Result<()> {
     let mut payload = [0u8; 65515];
     let mut map = [0u8; 1024];
     let mut other = [0u8; 65515];
     let mut marks = [0u8; 1024];
-    show_order(rt, choice, a, b, c)?;
-    let rec = three(rt, choice, a, b, c, &mut payload, &mut map)?;
+    show_order(rt, choice, order)?;
+    let rec = three(rt, choice, order, &mut payload, &mut map)?;
     print!(rt; ", without it:")?;
-    let plain = three(rt, 0, a, b, c, &mut other, &mut marks)?;
+    let plain = three(rt, 0, order, &mut other, &mut marks)?;
     show_same(
         rt,
         rec == plain && same_bytes(&payload, &other, &map, &marks),
@@ -145,12 +130,12 @@ fn beside(rt: &impl Print, choice: u8, a: u16, b: u16, c: u16) -> io::Result<()>
 
 // All six orders.
 fn orders(rt: &impl Print, choice: u8) -> io::Result<()> {
-    beside(rt, choice, 0, 1, 2)?;
-    beside(rt, choice, 0, 2, 1)?;
-    beside(rt, choice, 1, 0, 2)?;
-    beside(rt, choice, 1, 2, 0)?;
-    beside(rt, choice, 2, 0, 1)?;
-    beside(rt, choice, 2, 1, 0)
+    beside(rt, choice, [0, 1, 2])?;
+    beside(rt, choice, [0, 2, 1])?;
+    beside(rt, choice, [1, 0, 2])?;
+    beside(rt, choice, [1, 2, 0])?;
+    beside(rt, choice, [2, 0, 1])?;
+    beside(rt, choice, [2, 1, 0])
 }
 
 // All eight choices.
