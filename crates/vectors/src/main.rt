@@ -39,7 +39,7 @@ struct Case {
 
 // What came out: the cases so far, those that were refused as they must be, those that differ, and the first of
 // them.
-#[derive(Clone, Copy, Drop)]
+#[derive(Clone, Copy, Default, Drop)]
 struct Tally {
     cases: u32,
     refused: u32,
@@ -55,7 +55,9 @@ struct Run {
     at: usize,
 }
 
-// The case of a kind, with its body; buf holds the packet with headroom.
+// The case of a kind, with its body; buf holds the packet with headroom. A kind is a byte of the file
+// (oracle/FORMAT.md), and no enum: its first digit is its family, and the file may have any; a table of closures
+// would be read by the same number.
 fn family(now: Now, kind: u8, b: &[u8], buf: &mut [u8]) -> Now {
     match kind / 16 {
         0 => state::told(now, headers::call(kind, b)),
@@ -106,12 +108,7 @@ fn text_size(file: &[u8]) -> usize {
 fn begun(file: &[u8]) -> Run {
     Run {
         now: state::start(),
-        tally: Tally {
-            cases: 0,
-            refused: 0,
-            differ: 0,
-            first: None,
-        },
+        tally: Tally::default(),
         at: text_size(file),
     }
 }
