@@ -143,7 +143,7 @@ fn written(now: Now, kind: u8, b: &[u8], bytes: &[u8], out: &mut [u8]) -> Now {
 
 // A case that writes packets, with its payload.
 fn sending(now: Now, kind: u8, b: &[u8], bytes: &[u8]) -> Now {
-    let mut out = answer::room();
+    let mut out = answer::marked::<{ answer::ROOM }>();
     let end = answer::lent(each(kind, payload::behind(kind, b)), out.len());
     written(now, kind, b, bytes, &mut out[0..end])
 }

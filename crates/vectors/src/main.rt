@@ -179,7 +179,7 @@ fn show_tally(rt: &impl Print, t: Tally) -> io::Result<()> {
 
 fn main(rt: HostRuntime) -> io::Result<()> {
     let mut file = Vec::new(rt.alloc());
-    let mut buf = answer::large();
+    let mut buf = answer::marked::<{ answer::LARGE }>();
     let mut counts = [0u32; 256];
     rt.reader().take(1048640).read_to_end(&mut file)?;
     let tally = all_cases(&file, &mut buf, &mut counts);
