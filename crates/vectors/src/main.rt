@@ -144,12 +144,12 @@ fn ends(b: &[u8], now: Now, cases: u32) -> bool {
 // a file that fills the buffer, since it may go on behind it.
 fn closed(run: Run, file: &[u8]) -> Tally {
     let number = run.tally.cases.wrapping_add(1);
-    let whole = file.len() < 1048640;
+    let whole = file.len() < answer::LARGE;
     let right = whole && ends(back(file, run.at), run.now, run.tally.cases);
     noted(run.tally, Case { number, kind: 0 }, right)
 }
 
-// Every case of the file: no more than half of the bytes that large has, since each has two at least.
+// Every case of the file: no more than half of the bytes that LARGE has, since each has two at least.
 fn all_cases(file: &[u8], buf: &mut [u8], counts: &mut [u32; 256]) -> Tally {
     let mut run = begun(file);
     for _ in 0..524320u32 {
@@ -181,7 +181,9 @@ fn main(rt: HostRuntime) -> io::Result<()> {
     let mut file = Vec::new(rt.alloc());
     let mut buf = answer::marked::<{ answer::LARGE }>();
     let mut counts = [0u32; 256];
-    rt.reader().take(1048640).read_to_end(&mut file)?;
+    rt.reader()
+        .take(answer::LARGE as u64)
+        .read_to_end(&mut file)?;
     let tally = all_cases(&file, &mut buf, &mut counts);
     show_counts(&rt, &counts)?;
     show_tally(&rt, tally)
