@@ -5,9 +5,10 @@ use ezpkt::part::{back, front};
 use ezpkt::{Marks, SocketAddrV4};
 use pkt::refusal::Refusal;
 use std::io;
-use tcp4::{Sent, Seq, Side, TcpFlow};
+use tcp4::{Sent, Seq, TcpFlow};
 
 // The flow after a call, and where up to three packets end: what there is not ends where the one before it does.
+// Numbers, and no Sent: two flows' packets are shown side by side, and so both have three ends.
 #[derive(Clone, Copy, Drop)]
 struct Run {
     flow: TcpFlow,
@@ -15,38 +16,6 @@ struct Run {
     second: usize,
     third: usize,
 }
-
-// A call: the opening, those on the numbers of both sides, and those that each side has.
-#[derive(Clone, Copy, Drop)]
-enum Call {
-    Open,
-    Push,
-    Pop,
-    Of(Side, Kind),
-}
-
-#[derive(Clone, Copy, Drop)]
-enum Kind {
-    Acknowledged,
-    Message,
-    Data,
-    Ack,
-    Hole,
-    Header,
-    Close,
-    Reset,
-}
-
-const KINDS: [Kind; 8] = [
-    Kind::Acknowledged,
-    Kind::Message,
-    Kind::Data,
-    Kind::Ack,
-    Kind::Hole,
-    Kind::Header,
-    Kind::Close,
-    Kind::Reset,
-];
 
 fn ran(flow: TcpFlow, sent: Result<Sent, Refusal>) -> Run {
     let (flow, first, second, third) = match sent {
@@ -60,68 +29,6 @@ fn ran(flow: TcpFlow, sent: Result<Sent, Refusal>) -> Run {
         first,
         second,
         third,
-    }
-}
-
-fn by_client(kind: Kind, flow: TcpFlow, out: &mut [u8]) -> Result<Sent, Refusal> {
-    match kind {
-        Kind::Acknowledged => flow.client_message(b"lap!", true, 0, out),
-        Kind::Message => flow.client_message(b"lap!", false, 0, out),
-        Kind::Data => flow.client_data_segment(b"lap!", out),
-        Kind::Ack => flow.client_ack(out),
-        Kind::Hole => flow.client_hole(7).client_ack(out),
-        Kind::Header => flow.client_hdr(7, 0).flow.client_ack(out),
-        Kind::Close => flow.client_close(out),
-        Kind::Reset => flow.client_reset(out),
-    }
-}
-
-fn by_server(kind: Kind, flow: TcpFlow, out: &mut [u8]) -> Result<Sent, Refusal> {
-    match kind {
-        Kind::Acknowledged => flow.server_message(b"lap!", true, 0, out),
-        Kind::Message => flow.server_message(b"lap!", false, 0, out),
-        Kind::Data => flow.server_data_segment(b"lap!", out),
-        Kind::Ack => flow.server_ack(out),
-        Kind::Hole => flow.server_hole(7).server_ack(out),
-        Kind::Header => flow.server_hdr(7, 0).flow.server_ack(out),
-        Kind::Close => flow.server_close(out),
-        Kind::Reset => flow.server_reset(out),
-    }
-}
-
-fn made(call: Call, flow: TcpFlow, out: &mut [u8]) -> Result<Sent, Refusal> {
-    match call {
-        Call::Open => flow.open(out),
-        Call::Push => flow
-            .push_state(Seq::Is(9), Seq::Nothing)
-            .flow
-            .client_ack(out),
-        Call::Pop => flow.pop_state(Seq::Nothing, Seq::Is(70000)).client_ack(out),
-        Call::Of(Side::Client, kind) => by_client(kind, flow, out),
-        Call::Of(Side::Server, kind) => by_server(kind, flow, out),
-    }
-}
-
-fn side_name(call: Call) -> &'static str {
-    match call {
-        Call::Of(Side::Server, _) => "server",
-        _ => "client",
-    }
-}
-
-fn name(call: Call) -> &'static str {
-    match call {
-        Call::Open => "opening",
-        Call::Push => "acknowledgment after push_state",
-        Call::Pop => "acknowledgment after pop_state",
-        Call::Of(_, Kind::Acknowledged) => "message, acknowledged",
-        Call::Of(_, Kind::Message) => "message",
-        Call::Of(_, Kind::Data) => "data segment",
-        Call::Of(_, Kind::Ack) => "acknowledgment",
-        Call::Of(_, Kind::Hole) => "acknowledgment after a hole",
-        Call::Of(_, Kind::Header) => "acknowledgment after a header",
-        Call::Of(_, Kind::Close) => "close",
-        Call::Of(_, Kind::Reset) => "reset",
     }
 }
 
@@ -143,17 +50,106 @@ fn show_packets(rt: &impl Print, a: &[u8], x: Run, b: &[u8], y: Run) -> io::Resu
     Ok(())
 }
 
-fn both(rt: &impl Print, call: Call, flows: Flows<TcpFlow>) -> io::Result<Flows<TcpFlow>> {
+// The call on both flows.
+fn both<C: Fn(TcpFlow, &mut [u8]) -> Result<Sent, Refusal>>(
+    rt: &impl Print,
+    what: &str,
+    flows: Flows<TcpFlow>,
+    call: C,
+) -> io::Result<Flows<TcpFlow>>
+    requires { C.IsAlwaysCallable call }
+{
     let mut a = [0u8; 120];
     let mut b = [0u8; 120];
-    let x = ran(flows.marked, made(call, flows.marked, &mut a));
-    let y = ran(flows.plain, made(call, flows.plain, &mut b));
-    println!(rt; "TCP, the {}'s {}", side_name(call), name(call))?;
+    let x = ran(flows.marked, call(flows.marked, &mut a));
+    let y = ran(flows.plain, call(flows.plain, &mut b));
+    println!(rt; "TCP, the {what}")?;
     show_packets(rt, &a, x, &b, y)?;
     Ok(Flows {
         marked: x.flow,
         plain: y.flow,
     })
+}
+
+// The opening, and the calls on the numbers of both sides.
+fn calls_of_both(rt: &impl Print, flows: Flows<TcpFlow>) -> io::Result<Flows<TcpFlow>> {
+    let flows = both(rt, "client's opening", flows, |f, out| f.open(out))?;
+    let flows = both(
+        rt,
+        "client's acknowledgment after push_state",
+        flows,
+        |f, out| { f.push_state(Seq::Is(9), Seq::Nothing).flow.client_ack(out) },
+    )?;
+    both(
+        rt,
+        "client's acknowledgment after pop_state",
+        flows,
+        |f, out| { f.pop_state(Seq::Nothing, Seq::Is(70000)).client_ack(out) },
+    )
+}
+
+fn calls_of_client(rt: &impl Print, flows: Flows<TcpFlow>) -> io::Result<Flows<TcpFlow>> {
+    let flows = both(rt, "client's message, acknowledged", flows, |f, out| {
+        f.client_message(b"lap!", true, 0, out)
+    })?;
+    let flows = both(rt, "client's message", flows, |f, out| {
+        f.client_message(b"lap!", false, 0, out)
+    })?;
+    let flows = both(rt, "client's data segment", flows, |f, out| {
+        f.client_data_segment(b"lap!", out)
+    })?;
+    let flows = both(
+        rt,
+        "client's acknowledgment",
+        flows,
+        |f, out| f.client_ack(out),
+    )?;
+    let flows = both(
+        rt,
+        "client's acknowledgment after a hole",
+        flows,
+        |f, out| { f.client_hole(7).client_ack(out) },
+    )?;
+    let flows = both(
+        rt,
+        "client's acknowledgment after a header",
+        flows,
+        |f, out| { f.client_hdr(7, 0).flow.client_ack(out) },
+    )?;
+    let flows = both(rt, "client's close", flows, |f, out| f.client_close(out))?;
+    both(rt, "client's reset", flows, |f, out| f.client_reset(out))
+}
+
+fn calls_of_server(rt: &impl Print, flows: Flows<TcpFlow>) -> io::Result<Flows<TcpFlow>> {
+    let flows = both(rt, "server's message, acknowledged", flows, |f, out| {
+        f.server_message(b"lap!", true, 0, out)
+    })?;
+    let flows = both(rt, "server's message", flows, |f, out| {
+        f.server_message(b"lap!", false, 0, out)
+    })?;
+    let flows = both(rt, "server's data segment", flows, |f, out| {
+        f.server_data_segment(b"lap!", out)
+    })?;
+    let flows = both(
+        rt,
+        "server's acknowledgment",
+        flows,
+        |f, out| f.server_ack(out),
+    )?;
+    let flows = both(
+        rt,
+        "server's acknowledgment after a hole",
+        flows,
+        |f, out| { f.server_hole(7).server_ack(out) },
+    )?;
+    let flows = both(
+        rt,
+        "server's acknowledgment after a header",
+        flows,
+        |f, out| { f.server_hdr(7, 0).flow.server_ack(out) },
+    )?;
+    let flows = both(rt, "server's close", flows, |f, out| f.server_close(out))?;
+    both(rt, "server's reset", flows, |f, out| f.server_reset(out))
 }
 
 pub(crate) fn calls(
@@ -164,14 +160,8 @@ pub(crate) fn calls(
 ) -> io::Result<()> {
     let plain = TcpFlow::new(cl, sv, 1000, 5000);
     let marked = plain.marked(marks);
-    let mut flows = Flows { marked, plain };
-    for call in [Call::Open, Call::Push, Call::Pop] {
-        flows = both(rt, call, flows)?;
-    }
-    for side in [Side::Client, Side::Server] {
-        for kind in KINDS {
-            flows = both(rt, Call::Of(side, kind), flows)?;
-        }
-    }
+    let opened = calls_of_both(rt, Flows { marked, plain })?;
+    let told = calls_of_client(rt, opened)?;
+    calls_of_server(rt, told)?;
     Ok(())
 }

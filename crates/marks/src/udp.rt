@@ -4,28 +4,29 @@ use crate::shown::Flows;
 use ezpkt::part::front;
 use ezpkt::udp4::{Choices, UdpFlow};
 use ezpkt::{Marks, SocketAddrV4};
+use pkt::refusal::Refusal;
 use std::io;
 
-// How many bytes a datagram from one of the two sides has, or 0.
-fn sent(client: bool, flow: UdpFlow, out: &mut [u8]) -> usize {
-    let choices = Choices {
-        srcip: None,
-        frag_off: 0,
-        csum: true,
-    };
-    let built = if client {
-        flow.client_dgram(b"lap!", choices, out)
-    } else {
-        flow.server_dgram(b"lap!", choices, out)
-    };
-    built.unwrap_or(0)
-}
+const CHOICES: Choices = Choices {
+    srcip: None,
+    frag_off: 0,
+    csum: true,
+};
 
-fn both(rt: &impl Print, client: bool, flows: Flows<UdpFlow>) -> io::Result<()> {
+// The call on both flows.
+fn both<C: Fn(UdpFlow, &mut [u8]) -> Result<usize, Refusal>>(
+    rt: &impl Print,
+    what: &str,
+    flows: Flows<UdpFlow>,
+    call: C,
+) -> io::Result<()>
+    requires { C.IsAlwaysCallable call }
+{
     let mut a = [0u8; 32];
     let mut b = [0u8; 32];
-    let n = sent(client, flows.marked, &mut a);
-    let m = sent(client, flows.plain, &mut b);
+    let n = call(flows.marked, &mut a).unwrap_or(0);
+    let m = call(flows.plain, &mut b).unwrap_or(0);
+    println!(rt; "UDP, {what}")?;
     shown::show_both(rt, front(&a, n), front(&b, m))
 }
 
@@ -40,8 +41,10 @@ pub(crate) fn calls(
         marked: plain.marked(marks),
         plain,
     };
-    println!(rt; "UDP, the client's datagram")?;
-    both(rt, true, flows)?;
-    println!(rt; "UDP, the server's datagram")?;
-    both(rt, false, flows)
+    both(rt, "the client's datagram", flows, |f, out| {
+        f.client_dgram(b"lap!", CHOICES, out)
+    })?;
+    both(rt, "the server's datagram", flows, |f, out| {
+        f.server_dgram(b"lap!", CHOICES, out)
+    })
 }

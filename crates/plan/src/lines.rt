@@ -9,7 +9,8 @@ use planner::Look;
 // The most lines of a list.
 pub const MOST_LINES: usize = 8190;
 
-// Where a line stands, with the numbers that were read of it. Whole: it has just ended.
+// Where a line stands, with the numbers that were read of it. Whole: it has just ended. Two numbers, and no
+// BlockRequest, until the line is whole: what is read of a length is not yet one, and the promises say them apart.
 #[derive(Clone, Copy, Drop)]
 pub enum Place {
     Start,

@@ -17,7 +17,8 @@ use std::env::Args;
 use std::io::{Error, Read};
 use words::Ask;
 
-// Says on standard error what failed, and why.
+// Says on standard error what failed, and why. In each program for itself: no contract can say what a stream takes,
+// and nothing public goes uncontracted.
 fn say_failed(rt: &impl Eprint, what: &str, e: Error) {
     let _ = eprintln!(rt; "plan: {what}: {e}");
 }
@@ -129,7 +130,7 @@ fn say_wanted(rt: &impl Eprint) {
     );
 }
 
-// The bytes of a word; none where it is missing.
+// The bytes of a word; none where it is missing. lapfeed has it too: one line, and no library's.
 fn bytes(word: &Option<String>) -> &[u8] {
     word.as_deref().unwrap_or("").as_bytes()
 }

@@ -29,7 +29,8 @@ pub fn more_digit(v: u64, c: u8) -> Option<u64>
     v.checked_mul(10)?.checked_add(d)
 }
 
-// A number, in decimal.
+// A number, in decimal. Not words' read_number, which has bounds and 16 bits: numbers of 64 bits, and a byte at a time,
+// as lines needs them. No parse: it takes +5 and 05, which are wrong here, and the words are bytes.
 pub fn read_number(w: &[u8]) -> Option<u64>
     ensures { result ≡ number_in w.now }
 {

@@ -8,7 +8,8 @@ use pkt::refusal::Refusal;
 use planner::{Job, Look};
 use std::io::Error;
 
-// One line: the offset and the length in blocks, and the bytes.
+// One line: the offset and the length in blocks, and the bytes. As plan prints it, and so are a refusal and what the
+// check says: a program has no library of its own.
 fn print_request(rt: &impl Print, r: BlockRequest, n: usize) -> Result<(), Error> {
     let off = r.off;
     let len = r.len;

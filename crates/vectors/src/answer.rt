@@ -26,17 +26,17 @@ pub(crate) fn lent(n: usize, all: usize) -> usize
 }
 
 // Room for the file, and for the largest packet with its margin.
-pub(crate) fn large() -> [u8; 1048640]
-    ensures { 1048640 ≡ length result }
-{
-    [MARK; 1048640]
-}
+pub(crate) const LARGE: usize = 1048640;
 
 // Room for what a flow's call writes: an acknowledgment and a packet, with the margin.
-pub(crate) fn room() -> [u8; 65664]
-    ensures { 65664 ≡ length result }
+pub(crate) const ROOM: usize = 65664;
+
+// So many bytes, each of them MARK.
+pub(crate) fn marked<const N: usize>() -> [u8; N]
+    requires { N ≤ 1048640 }
+    ensures { N ≡ length result }
 {
-    [MARK; 65664]
+    [MARK; N]
 }
 
 // The digest h, carried on over these bytes.
@@ -103,7 +103,7 @@ pub(crate) fn span(kind: u8, n: usize) -> usize
 fn holds(kind: u8, e: &[u8], now: Now, out: &[u8]) -> bool {
     let n = now.end;
     if is_shown(kind, n) {
-        return check::same(front(e, n), front(out, n));
+        return front(e, n) == front(out, n);
     }
     fields::four(e, 0) == now.digest
 }

@@ -32,7 +32,8 @@ fn each(kind: u8, a: &[u8]) -> usize {
         .unwrap_or(0)
 }
 
-// The call of a kind. What it wrote stays none, where it was refused or the case has what no call has.
+// The call of a kind; kind and b go apart in each family, since most of its functions need the one or the other.
+// What it wrote stays none, where it was refused or the case has what no call has.
 fn sent(now: Now, kind: u8, b: &[u8], bytes: &[u8], frag_off: u16, out: &mut [u8]) -> Now {
     match kind / 16 {
         1 => pieces::sent(now, kind, b, bytes, out),
@@ -103,13 +104,19 @@ fn are_counts(kind: u8, e: &[u8], now: Now) -> bool {
     }
 }
 
-// Whether the flows are as the end of a, from a place on, tells. There is nothing for pieces and datagrams.
+// Whether the flows, open before and after, are as the end of a, from a place on, tells. There is nothing for pieces and datagrams.
 fn has_state(kind: u8, a: &[u8], at: usize, before: Now, now: Now) -> bool {
     let e = back(a, at);
     match kind / 16 {
         1 | 2 => a.len() == at,
-        3 => icmp::has_states(e, before.icmp, now.icmp),
-        _ => tcp::has_states(e, before.tcp, now.tcp),
+        3 => before
+            .icmp
+            .zip(now.icmp)
+            .is_some_and(|(x, y)| icmp::has_state(e, x, y)),
+        _ => before
+            .tcp
+            .zip(now.tcp)
+            .is_some_and(|(x, y)| tcp::has_state(e, x, y)),
     }
 }
 
@@ -136,7 +143,7 @@ fn written(now: Now, kind: u8, b: &[u8], bytes: &[u8], out: &mut [u8]) -> Now {
 
 // A case that writes packets, with its payload.
 fn sending(now: Now, kind: u8, b: &[u8], bytes: &[u8]) -> Now {
-    let mut out = answer::room();
+    let mut out = answer::marked::<{ answer::ROOM }>();
     let end = answer::lent(each(kind, payload::behind(kind, b)), out.len());
     written(now, kind, b, bytes, &mut out[0..end])
 }

@@ -23,7 +23,7 @@ fn ip(b: &[u8]) -> bool {
         daddr: fields::four(b, 13),
     };
     let got = h.to_bytes();
-    check::same(back(b, 17), &got)
+    back(b, 17) == got.as_slice()
 }
 
 fn tcp(b: &[u8]) -> bool {
@@ -35,7 +35,7 @@ fn tcp(b: &[u8]) -> bool {
         flags: fields::byte(b, 12),
     };
     let got = h.to_bytes(fields::two(b, 13));
-    check::same(back(b, 15), &got)
+    back(b, 15) == got.as_slice()
 }
 
 fn udp(b: &[u8]) -> bool {
@@ -45,7 +45,7 @@ fn udp(b: &[u8]) -> bool {
         len: fields::two(b, 4),
     };
     let got = h.to_bytes(fields::two(b, 6));
-    check::same(back(b, 8), &got)
+    back(b, 8) == got.as_slice()
 }
 
 fn icmp(b: &[u8]) -> bool {
@@ -58,7 +58,7 @@ fn icmp(b: &[u8]) -> bool {
         seq: fields::two(b, 6),
     };
     let got = h.to_bytes(echo, fields::two(b, 2));
-    check::same(back(b, 8), &got)
+    back(b, 8) == got.as_slice()
 }
 
 // Whether the case comes out as in the Rust.

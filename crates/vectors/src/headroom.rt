@@ -126,7 +126,7 @@ fn given(kind: u8, p: Packet, bytes: &[u8], buf: &mut [u8]) -> Result<Grown, Ref
     }
 }
 
-// The caller writes a part of its buffer.
+// The caller writes a part of its buffer. Several programs do so: no library needs it, and it would be public there.
 fn put(bytes: &[u8], off: usize, buf: &mut [u8]) {
     if off <= buf.len() && bytes.len() <= buf.len() - off {
         copy(bytes, &mut buf[off..]);
@@ -213,7 +213,7 @@ fn copying(now: Now, kind: u8, b: &[u8], e: &[u8], buf: &[u8], out: &mut [u8]) -
 
 // Kinds that copy bytes out.
 fn read(now: Now, kind: u8, b: &[u8], e: &[u8], buf: &[u8]) -> Now {
-    let mut out = answer::large();
+    let mut out = answer::marked::<{ answer::LARGE }>();
     let end = answer::lent(fields::size(e, 0), out.len());
     copying(now, kind, b, e, buf, &mut out[0..end])
 }

@@ -7,19 +7,11 @@ use ezpkt::part::back;
 use pkt::refusal::Refusal;
 
 // Whether e is the two numbers of the flow, which has the ends that it had.
-fn has_state(e: &[u8], before: IcmpFlow, flow: IcmpFlow) -> bool {
+pub(crate) fn has_state(e: &[u8], before: IcmpFlow, flow: IcmpFlow) -> bool {
     let ping = fields::two(e, 0) == flow.ping_seq;
     let pong = fields::two(e, 2) == flow.pong_seq;
     let ends = before.cl == flow.cl && before.sv == flow.sv;
     e.len() == 4 && ping && pong && ends
-}
-
-// .. of a flow that is open.
-pub(crate) fn has_states(e: &[u8], before: Option<IcmpFlow>, now: Option<IcmpFlow>) -> bool {
-    match (before, now) {
-        (Some(before), Some(flow)) => has_state(e, before, flow),
-        _ => false,
-    }
 }
 
 // Kind 30.

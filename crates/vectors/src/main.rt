@@ -39,7 +39,7 @@ struct Case {
 
 // What came out: the cases so far, those that were refused as they must be, those that differ, and the first of
 // them.
-#[derive(Clone, Copy, Drop)]
+#[derive(Clone, Copy, Default, Drop)]
 struct Tally {
     cases: u32,
     refused: u32,
@@ -55,7 +55,9 @@ struct Run {
     at: usize,
 }
 
-// The case of a kind, with its body; buf holds the packet with headroom.
+// The case of a kind, with its body; buf holds the packet with headroom. A kind is a byte of the file
+// (oracle/FORMAT.md), and no enum: its first digit is its family, and the file may have any; a table of closures
+// would be read by the same number.
 fn family(now: Now, kind: u8, b: &[u8], buf: &mut [u8]) -> Now {
     match kind / 16 {
         0 => state::told(now, headers::call(kind, b)),
@@ -106,12 +108,7 @@ fn text_size(file: &[u8]) -> usize {
 fn begun(file: &[u8]) -> Run {
     Run {
         now: state::start(),
-        tally: Tally {
-            cases: 0,
-            refused: 0,
-            differ: 0,
-            first: None,
-        },
+        tally: Tally::default(),
         at: text_size(file),
     }
 }
@@ -147,12 +144,12 @@ fn ends(b: &[u8], now: Now, cases: u32) -> bool {
 // a file that fills the buffer, since it may go on behind it.
 fn closed(run: Run, file: &[u8]) -> Tally {
     let number = run.tally.cases.wrapping_add(1);
-    let whole = file.len() < 1048640;
+    let whole = file.len() < answer::LARGE;
     let right = whole && ends(back(file, run.at), run.now, run.tally.cases);
     noted(run.tally, Case { number, kind: 0 }, right)
 }
 
-// Every case of the file: no more than half of the bytes that large has, since each has two at least.
+// Every case of the file: no more than half of the bytes that LARGE has, since each has two at least.
 fn all_cases(file: &[u8], buf: &mut [u8], counts: &mut [u32; 256]) -> Tally {
     let mut run = begun(file);
     for _ in 0..524320u32 {
@@ -182,9 +179,11 @@ fn show_tally(rt: &impl Print, t: Tally) -> io::Result<()> {
 
 fn main(rt: HostRuntime) -> io::Result<()> {
     let mut file = Vec::new(rt.alloc());
-    let mut buf = answer::large();
+    let mut buf = answer::marked::<{ answer::LARGE }>();
     let mut counts = [0u32; 256];
-    rt.reader().take(1048640).read_to_end(&mut file)?;
+    rt.reader()
+        .take(answer::LARGE as u64)
+        .read_to_end(&mut file)?;
     let tally = all_cases(&file, &mut buf, &mut counts);
     show_counts(&rt, &counts)?;
     show_tally(&rt, tally)

@@ -65,7 +65,8 @@ fn put(b: &[u8], out: &mut [u8]) {
 }
 
 // Writes the payload of a body at the start of data, as far as it has room, and answers how many bytes that
-// are: none, where the kind has no payload.
+// are: none, where the kind has no payload. It goes into a lent buffer, and no Vec: the families have no runtime to
+// allocate by.
 pub(crate) fn make(kind: u8, b: &[u8], data: &mut [u8]) -> usize
     ensures { result ≤ length «data».new }
 {

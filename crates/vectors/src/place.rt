@@ -1,4 +1,5 @@
-// Where the parts of a body are. Each table has a row for sixteen kinds.
+// Where the parts of a body are. Each table has a row for sixteen kinds: a table for each question, since one table
+// of records would have 112.
 ghost use Rattle.std.specs.Prelude.{◌≤◌};
 
 use crate::fields;

@@ -9,6 +9,9 @@ use tcp4::TcpFlow;
 // second end, if it is a TCP flow's; what refused it, if it is a piece or a datagram. Of
 // all calls of the case: how many bytes they wrote, their digest, whether each wrote a packet and no byte behind
 // it, and whether each was refused by 22 and wrote no byte. Then whether the case came out as it should.
+//
+// count, first, second and end are numbers, and no Sent: they tell of calls that answer a length, a Sent and a
+// Grown alike.
 #[derive(Clone, Copy, Drop)]
 pub(crate) struct Now {
     pub(crate) icmp: Option<IcmpFlow>,
@@ -27,7 +30,8 @@ pub(crate) struct Now {
     pub(crate) same: bool,
 }
 
-// Before the first case: no flow is open, and every call on the packet is refused.
+// Before the first case: no flow is open, and every call on the packet is refused. The packet is no Option: a
+// record that every call refuses is a packet as any other, and each case on it differs then.
 pub(crate) fn start() -> Now {
     Now {
         icmp: None,

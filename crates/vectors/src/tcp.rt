@@ -7,19 +7,11 @@ use pkt::refusal::Refusal;
 use tcp4::{Header, PushedState, Sent, Seq, TcpFlow};
 
 // Whether e is the two numbers of the flow, which has the ends that it had.
-fn has_state(e: &[u8], before: TcpFlow, flow: TcpFlow) -> bool {
+pub(crate) fn has_state(e: &[u8], before: TcpFlow, flow: TcpFlow) -> bool {
     let cl = fields::four(e, 0) == flow.cl_seq;
     let sv = fields::four(e, 4) == flow.sv_seq;
     let ends = before.cl == flow.cl && before.sv == flow.sv;
     e.len() == 8 && cl && sv && ends
-}
-
-// .. of a flow that is open.
-pub(crate) fn has_states(e: &[u8], before: Option<TcpFlow>, now: Option<TcpFlow>) -> bool {
-    match (before, now) {
-        (Some(before), Some(flow)) => has_state(e, before, flow),
-        _ => false,
-    }
 }
 
 // The flow afterwards, and whether it has the numbers that e tells and what was answered is the same.
@@ -102,7 +94,7 @@ fn header(kind: u8, flow: TcpFlow, dlen: u32, csum: u16) -> Header {
 fn headed(now: Now, before: TcpFlow, kind: u8, a: &[u8]) -> Now {
     let got = header(kind, before, fields::four(a, 0), fields::two(a, 4));
     let size = fields::four(a, 6);
-    let same = check::same(front(back(a, 10), 20), &got.bytes);
+    let same = front(back(a, 10), 20) == got.bytes.as_slice();
     stepped(now, before, got.flow, back(a, 30), same && size == 20)
 }
 

@@ -1,7 +1,0 @@
--- The length of so many bytes is a law: they are not counted.
-use Rattle.std.proofs.Common.{ℕ, sym}
-use lib.ListN.{length-replicate}
-use Rattle.vectors.proofs.answer.room.Goals as goal
-
-pub returns : goal.returns
-returns c = sym (length-replicate {A = ℕ} 65664 165)
