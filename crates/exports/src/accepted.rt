@@ -1,5 +1,5 @@
 // Captures that are exported.
-use crate::made::{one, put_bytes, three};
+use crate::made::{changed, one, put_bytes, three};
 use crate::shown::show_into;
 use ezpkt::part::front;
 use std::io::Error;
@@ -21,34 +21,32 @@ fn paddings(rt: &(impl Print + AllocGlobal)) -> Result<(), Error> {
     padded(rt, "a packet of 5 bytes", b"laps!")
 }
 
-// .. of 5 bytes, with other bytes at a place of its record's header.
-fn changed(
+// A packet of 5 bytes, with other bytes at a place of its record's header.
+fn changed_laps(
     rt: &(impl Print + AllocGlobal),
     words: &str,
     at: usize,
     bytes: &[u8],
 ) -> Result<(), Error> {
-    let mut c = one(b"laps!");
-    put_bytes(bytes, at, &mut c);
-    show_into(rt, words, &c, 96)
+    show_into(rt, words, &changed(one(b"laps!"), at, bytes), 96)
 }
 
 // Times whose count of microseconds has 0 for its high word, the first 1, and the most.
 fn times(rt: &(impl Print + AllocGlobal)) -> Result<(), Error> {
-    changed(rt, "0 s and 0 us", 24, b"\x00\x00\x00\x00\x00\x00\x00\x00")?;
-    changed(
+    changed_laps(rt, "0 s and 0 us", 24, b"\x00\x00\x00\x00\x00\x00\x00\x00")?;
+    changed_laps(
         rt,
         "4,294 s and 967,295 us",
         24,
         b"\xc6\x10\x00\x00\x7f\xc2\x0e\x00",
     )?;
-    changed(
+    changed_laps(
         rt,
         "4,294 s and 967,296 us",
         24,
         b"\xc6\x10\x00\x00\x80\xc2\x0e\x00",
     )?;
-    changed(
+    changed_laps(
         rt,
         "4,294,967,295 s and 999,999 us",
         24,
@@ -58,9 +56,9 @@ fn times(rt: &(impl Print + AllocGlobal)) -> Result<(), Error> {
 
 // Original lengths that are not the captured one.
 fn originals(rt: &(impl Print + AllocGlobal)) -> Result<(), Error> {
-    changed(rt, "an original length of 1,500", 36, b"\xdc\x05\x00\x00")?;
-    changed(rt, "an original length of 4", 36, b"\x04\x00\x00\x00")?;
-    changed(
+    changed_laps(rt, "an original length of 1,500", 36, b"\xdc\x05\x00\x00")?;
+    changed_laps(rt, "an original length of 4", 36, b"\x04\x00\x00\x00")?;
+    changed_laps(
         rt,
         "an original length of 4,294,967,295",
         36,

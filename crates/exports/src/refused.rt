@@ -1,5 +1,5 @@
 // Captures that are refused, and the room that is just enough.
-use crate::made::{put_bytes, three};
+use crate::made::{changed, put_bytes, three};
 use crate::shown::show_into;
 use ezpkt::part::front;
 use std::io::Error;
@@ -16,16 +16,14 @@ fn cut(rt: &(impl Print + AllocGlobal), words: &str, n: usize, room: usize) -> R
 }
 
 // .. all of them, with other bytes at a place.
-fn changed(
+fn changed_three(
     rt: &(impl Print + AllocGlobal),
     words: &str,
     at: usize,
     bytes: &[u8],
     room: usize,
 ) -> Result<(), Error> {
-    let mut c = three();
-    put_bytes(bytes, at, &mut c);
-    show_into(rt, words, &c, room)
+    show_into(rt, words, &changed(three(), at, bytes), room)
 }
 
 // .. or at two.
@@ -37,24 +35,22 @@ fn changed_twice(
     then: usize,
     others: &[u8],
 ) -> Result<(), Error> {
-    let mut c = three();
-    put_bytes(bytes, at, &mut c);
-    put_bytes(others, then, &mut c);
-    show_into(rt, words, &c, 192)
+    let c = changed(three(), at, bytes);
+    show_into(rt, words, &changed(c, then, others), 192)
 }
 
 // 23.
 fn headers(rt: &(impl Print + AllocGlobal)) -> Result<(), Error> {
     cut(rt, "no bytes", 0, 192)?;
     cut(rt, "a header cut short", 23, 192)?;
-    changed(
+    changed_three(
         rt,
         "the magic number for nanoseconds",
         0,
         b"\x4d\x3c\xb2\xa1",
         192,
     )?;
-    changed(rt, "link type 1", 20, b"\x01", 192)
+    changed_three(rt, "link type 1", 20, b"\x01", 192)
 }
 
 // 25, where a record is cut short,
@@ -64,7 +60,7 @@ fn records(rt: &(impl Print + AllocGlobal)) -> Result<(), Error> {
     cut(rt, "the last record's header cut short", 65, 192)?;
     cut(rt, "the first record's bytes cut short", 42, 192)?;
     cut(rt, "the last record's bytes cut short", 83, 192)?;
-    changed(rt, "a length of 65,536", 51, b"\x00\x00\x01\x00", 192)
+    changed_three(rt, "a length of 65,536", 51, b"\x00\x00\x01\x00", 192)
 }
 
 // and where it has all of its bytes, and one too many.
@@ -77,8 +73,8 @@ fn too_long(rt: &(impl Print + AllocGlobal)) -> Result<(), Error> {
 
 // 17.
 fn times(rt: &(impl Print + AllocGlobal)) -> Result<(), Error> {
-    changed(rt, "1,000,000 us in the first", 28, &MILLION, 192)?;
-    changed(rt, "4,294,967,295 us in the last", 68, &MOST, 192)?;
+    changed_three(rt, "1,000,000 us in the first", 28, &MILLION, 192)?;
+    changed_three(rt, "4,294,967,295 us in the last", 68, &MOST, 192)?;
     changed_twice(rt, "both in the last two", 47, &MILLION, 68, &MOST)
 }
 
@@ -93,8 +89,8 @@ fn orders(rt: &(impl Print + AllocGlobal)) -> Result<(), Error> {
         72,
         b"\x05",
     )?;
-    changed(rt, "17 of the last before 3", 68, &MOST, 159)?;
-    changed(rt, "17 of the last before 3, no room", 68, &MOST, 0)?;
+    changed_three(rt, "17 of the last before 3", 68, &MOST, 159)?;
+    changed_three(rt, "17 of the last before 3, no room", 68, &MOST, 0)?;
     cut(rt, "23 before 3", 23, 0)?;
     cut(rt, "25 before 3", 83, 0)
 }

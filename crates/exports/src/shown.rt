@@ -6,7 +6,7 @@ use std::io::Error;
 // What each byte of the output is before a call.
 const BYTE: u8 = 0xaa;
 
-// What the call answers.
+// What the call answers. (By a match, and no Display: the type is a library's, and each program has its own words for it.)
 fn say_answer(rt: &impl Print, answer: Result<usize, ListRefusal>) -> Result<(), Error> {
     match answer {
         Ok(n) => print!(rt; ": {n} bytes"),
@@ -17,7 +17,7 @@ fn say_answer(rt: &impl Print, answer: Result<usize, ListRefusal>) -> Result<(),
     }
 }
 
-// Whether all these bytes are as before the call.
+// Whether all these bytes are as before the call. (As in mends: no library needs it.)
 fn is_filled(s: &[u8]) -> bool {
     s.iter().all(|b| *b == BYTE)
 }

@@ -17,7 +17,7 @@ fn put(packet: &[u8], n: usize, out: &mut [u8]) -> usize
 }
 
 // The packets of a capture at the start of out, and where each ends at the start of ends. How many there are, or the refusal of the first step that
-// finds no further record.
+// finds no further record. (A while over steps: records have different lengths, and the reader is no iterator.)
 pub(crate) fn gather(
     capture: &[u8],
     out: &mut [u8],

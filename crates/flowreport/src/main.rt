@@ -14,13 +14,13 @@ use std::alloc::AllocError;
 use std::env;
 use std::env::Args;
 use std::fmt::Display;
-
-const STDIN_FILENO: i32 = 0;
+use std::io::{ErrorKind, Read};
 
 // The bytes of the longest capture that is taken.
 const MOST: usize = 2097152;
 
-// Says on standard error what failed, and why.
+// Says on standard error what failed, and why. (In each program for itself: no contract can say what a stream takes, and nothing public goes without
+// one.)
 fn say_failed(rt: &impl Eprint, what: &str, e: impl Display + Drop) {
     let _ = eprintln!(rt; "flowreport: {what}: {e}");
 }
@@ -31,7 +31,7 @@ fn say_wanted(rt: &impl Eprint) {
     );
 }
 
-// Why a refusal is given for the whole of a capture.
+// Why a refusal is given for the whole of a capture. (The texts, here and below, are each program's own.)
 fn reason(refusal: Refusal) -> &'static str {
     if refusal == Refusal::NotCapture {
         "the input does not begin with the header of a classic pcap capture, little-endian, version 2.4, with microseconds, snap length 65,535 and link type 101"
@@ -59,7 +59,8 @@ fn say_refused(rt: &impl Eprint, refused: ListRefusal) {
     };
 }
 
-// The report of a capture's packets, which are put end to end into out, with their ends.
+// The report of a capture's packets, which are put end to end into out, with their ends. (cl and sv go apart, here and below, as flow_report takes
+// them.)
 fn report_in(
     capture: &[u8],
     out: &mut [u8],
@@ -93,19 +94,21 @@ fn report(
     Ok(())
 }
 
-// Reads a capture, and reports on it; a byte more than the longest has shows that there is more.
+// Reads a capture, and reports on it; a byte more than the longest has shows that there is more. A read that fails is the input's end.
 fn run(
-    rt: &(impl Print + Eprint + AllocGlobal),
+    rt: &(impl Print + Eprint + Input + AllocGlobal),
     cl: SocketAddrV4,
     sv: SocketAddrV4,
 ) -> Result<(), AllocError> {
-    let mut input = vec![in rt.alloc(); 0u8; MOST + 1]?;
-    let n = io::read_full(STDIN_FILENO, &mut input);
-    if MOST < n {
-        let _ = rt.eprintln("flowreport: more than 2,097,152 bytes of input");
-        return Ok(());
+    let mut input = Vec::new(rt.alloc());
+    match rt.reader().take(MOST as u64 + 1).read_to_end(&mut input) {
+        Err(e) if e.kind() == ErrorKind::OutOfMemory => Err(AllocError),
+        _ if MOST < input.len() => {
+            let _ = rt.eprintln("flowreport: more than 2,097,152 bytes of input");
+            Ok(())
+        }
+        _ => report(rt, &input, cl, sv),
     }
-    report(rt, &input[0..n], cl, sv)
 }
 
 // The two addresses that the words behind the program's name are, if they are.

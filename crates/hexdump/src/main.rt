@@ -3,29 +3,41 @@
 
 use packet::Packet;
 use pkt::refusal::Refusal;
+use std::io;
+use std::io::{ErrorKind, Read};
 
-const STDIN_FILENO: i32 = 0;
-
-const STDOUT_FILENO: i32 = 1;
-
-fn show(p: Packet, buf: &[u8]) -> Result<(), Refusal> {
-    let mut out = [0u8; 20000];
-    let size = p.hex_dump(buf, &mut out)?;
-    if size <= 20000 {
-        io::write_all(STDOUT_FILENO, &out[0..size]);
-    }
-    Ok(())
-}
-
-fn dump(bytes: &[u8], buf: &mut [u8]) -> Result<(), Refusal> {
+// The packet of these bytes.
+fn packet_of(bytes: &[u8], buf: &mut [u8]) -> Result<Packet, Refusal> {
     let empty = Packet::new(16, buf)?;
     let grown = empty.push_bytes(bytes, buf)?;
-    show(grown.whole, buf)
+    Ok(grown.whole)
 }
 
-fn main() {
-    let mut input = [0u8; 4096];
+fn show(rt: &(impl Print + AllocGlobal), p: Packet, buf: &[u8]) -> io::Result<()> {
+    let size = p.hex_dump_len(buf).unwrap_or(0);
+    let mut out = vec![in rt.alloc(); 0u8; size]?;
+    let _ = p.hex_dump(buf, &mut out); // there is room for it
+    rt.write_all(&out)
+}
+
+// The dump of these bytes; what is refused is not shown.
+fn dump(rt: &(impl Print + AllocGlobal), bytes: &[u8]) -> io::Result<()> {
     let mut buf = [0u8; 4112];
-    let n = io::read_full(STDIN_FILENO, &mut input);
-    let _ = dump(&input[0..n], &mut buf); // what is refused is not shown
+    match packet_of(bytes, &mut buf) {
+        Ok(p) => show(rt, p, &buf),
+        Err(_) => Ok(()),
+    }
+}
+
+// Reads at most 4,096 bytes, and shows them. A read that fails is the input's end.
+fn run(rt: &(impl Print + Input + AllocGlobal)) -> io::Result<()> {
+    let mut input = Vec::new(rt.alloc());
+    match rt.reader().take(4096).read_to_end(&mut input) {
+        Err(e) if e.kind() == ErrorKind::OutOfMemory => Err(e),
+        _ => dump(rt, &input),
+    }
+}
+
+fn main(rt: HostRuntime) {
+    let _ = run(&rt); // what cannot be written is not shown
 }

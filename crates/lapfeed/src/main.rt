@@ -14,13 +14,15 @@ use std::env;
 use std::env::Args;
 use std::io::{Error, Read};
 
-// Says on standard error what failed, and why.
+// Says on standard error what failed, and why. (In each program for itself: no contract can say what a stream takes, and nothing public goes without
+// one.)
 fn say_failed(rt: &impl Eprint, what: &str, e: Error) {
     let _ = eprintln!(rt; "lapfeed: {what}: {e}");
 }
 
 // Reads until the buffer is full or the input ends, and answers how many bytes were read.
-// (A while: how many bytes a read gives is only known behind it.)
+// (A while: how many bytes a read gives is only known behind it, and read_to_end reads into a Vec, where a frame goes into one lent array. In each
+// program for itself: no contract can say what a stream gives.)
 fn fill(from: &mut impl Read, buf: &mut [u8]) -> Result<usize, Error>
     ensures { IfOk result (λ n. n ≤ length buf.new) }
 {
@@ -35,7 +37,8 @@ fn fill(from: &mut impl Read, buf: &mut [u8]) -> Result<usize, Error>
     Ok(n)
 }
 
-// Reads frame i and writes its records: the feed after it, or nothing where it was the last.
+// Reads frame i and writes its records: the feed after it, or nothing where it was the last. (Feed, frame and buffers go apart, here and below: each
+// buffer is lent to another call.)
 fn feed_one(
     rt: &(impl Print + Eprint),
     from: &mut impl Read,
@@ -114,7 +117,7 @@ fn run(rt: &(impl Print + Eprint + Input), setup: Setup)
         return;
     }
     let mut from = rt.reader();
-    let mut input = [0u8; limit::UDP_PAYLOAD];
+    let mut input = [0u8; limit::UDP_PAYLOAD]; // lent as far as a frame goes: a Vec of that size would bring memory that runs out
     let mut scratch = [0u8; limit::BYTES];
     let mut out = [0u8; frames::MOST_RECORDS];
     let first = setup.feed;
@@ -135,7 +138,7 @@ fn say_wanted(rt: &impl Eprint) {
     );
 }
 
-// The bytes of a word; none where it is missing.
+// The bytes of a word; none where it is missing. (plan has it too: one line, and no library's.)
 fn bytes(word: &Option<String>) -> &[u8] {
     word.as_deref().unwrap_or("").as_bytes()
 }

@@ -16,12 +16,13 @@ const MOST: usize = 65536;
 // least 28, the IPv4 header's 20 and 8 of its transport: there are at most 65,512 / 44 = 1,488 of them. Each has at most two changes: 2,976.
 const MOST_CHANGES: usize = 2 * ((MOST - 24) / (16 + 28));
 
-// Says on standard error what failed, and why.
+// Says on standard error what failed, and why. (In each program for itself: no contract can say what a stream takes, and nothing public goes without
+// one.)
 fn say_failed(rt: &impl Eprint, what: &str, e: impl Display + Drop) {
     let _ = eprintln!(rt; "mend: {what}: {e}");
 }
 
-// Which checksum.
+// Which checksum. (A number, as mending's rows have it: mending::IPV4 says why. mends has this and the next too: a program has no library of its own.)
 fn field_name(which: usize) -> &'static str {
     if which == mending::IPV4 {
         "IPv4"
@@ -39,7 +40,7 @@ fn say_change(rt: &impl Eprint, change: [usize; 4]) {
     );
 }
 
-// Why a refusal is given for the whole of a capture.
+// Why a refusal is given for the whole of a capture. (The texts, here and below, are each program's own.)
 fn reason(refusal: Refusal) -> &'static str {
     if refusal == Refusal::NotCapture {
         "the input does not begin with the header of a classic pcap capture, little-endian, version 2.4, with microseconds, snap length 65,535 and link type 101"
@@ -106,7 +107,7 @@ fn run(rt: &(impl Print + Eprint + Input + AllocGlobal)) -> Result<(), AllocErro
     Ok(())
 }
 
-// Whether there are words behind the program's name.
+// Whether there are words behind the program's name. (In each program for itself: no contract can say which words it has.)
 fn has_words(rt: &impl Env) -> bool {
     !matches!(rt.arg(1, &mut [0u8; 1]), Err(FillError::NotPresent))
 }

@@ -15,7 +15,7 @@ fn two() -> [u8; 116] {
 }
 
 // The first bytes of two records, however many.
-fn fronts(rt: &impl Print, two: &[u8]) -> io::Result<()> {
+fn fronts(rt: &(impl Print + AllocGlobal), two: &[u8]) -> io::Result<()> {
     for n in 0..two.len() {
         show_into(rt, "two records, cut", front(two, n), 128, 4)?;
     }
@@ -23,14 +23,14 @@ fn fronts(rt: &impl Print, two: &[u8]) -> io::Result<()> {
 }
 
 // A capture's header that is not document 01's.
-fn other_header(rt: &impl Print) -> io::Result<()> {
+fn other_header(rt: &(impl Print + AllocGlobal)) -> io::Result<()> {
     let mut h = pcap::header();
     put_bytes(b"\x01", 23, &mut h);
     show_into(rt, "a header with another last byte", &h, 128, 4)
 }
 
 // One record, 70 bytes with two changes, into just enough room and less.
-fn rooms(rt: &impl Print, one: &[u8]) -> io::Result<()> {
+fn rooms(rt: &(impl Print + AllocGlobal), one: &[u8]) -> io::Result<()> {
     show_into(rt, "just enough room", one, 70, 2)?;
     show_into(rt, "a byte less in the second buffer", one, 69, 2)?;
     show_into(rt, "a row less in the list", one, 70, 1)?;
@@ -40,7 +40,12 @@ fn rooms(rt: &impl Print, one: &[u8]) -> io::Result<()> {
 }
 
 // The first n bytes of a capture of one record, zeros but for these bytes of it: its two lengths, and its packet.
-fn show_long(rt: &impl Print, what: &str, record: &[u8], n: usize) -> io::Result<()> {
+fn show_long(
+    rt: &(impl Print + AllocGlobal),
+    what: &str,
+    record: &[u8],
+    n: usize,
+) -> io::Result<()> {
     let mut c = [0u8; 65576];
     let _ = pcap::write_header(&mut c);
     put_bytes(record, 32, &mut c);
@@ -48,7 +53,7 @@ fn show_long(rt: &impl Print, what: &str, record: &[u8], n: usize) -> io::Result
 }
 
 // The longest record, whose packet is an IPv4 header and an ICMP message that is all zero, and one that is longer.
-fn lengths(rt: &impl Print) -> io::Result<()> {
+fn lengths(rt: &(impl Print + AllocGlobal)) -> io::Result<()> {
     show_long(
         rt,
         "a record of 65,536 bytes",
@@ -70,7 +75,7 @@ fn lengths(rt: &impl Print) -> io::Result<()> {
 }
 
 // All of them.
-pub(crate) fn each(rt: &impl Print) -> io::Result<()> {
+pub(crate) fn each(rt: &(impl Print + AllocGlobal)) -> io::Result<()> {
     let two = two();
     fronts(rt, &two)?;
     rooms(rt, front(&two, 70))?;

@@ -11,20 +11,21 @@ mod words;
 
 use ezpkt::part::front;
 use shown::{show, show_into};
+use std::io;
+use std::io::Read;
 
-const STDIN_FILENO: i32 = 0;
-
-// The capture on standard input, and what it is mended to once more.
-fn stored(rt: &impl Print) -> std::io::Result<()> {
-    let mut input = [0u8; 1024];
-    let n = io::read_full(STDIN_FILENO, &mut input);
+// The capture on standard input, and what it is mended to once more. A read that fails is the input's end.
+fn stored(rt: &(impl Print + Input + AllocGlobal)) -> io::Result<()> {
+    let mut input = Vec::new(rt.alloc());
+    let _ = rt.reader().take(1024).read_to_end(&mut input);
+    let n = input.len();
     let mut out = [shown::BYTE; 1024];
     let mut rows = [[shown::NUMBER; 4]; 16];
-    show(rt, "the stored capture", &input[..n], &mut out, &mut rows)?;
+    show(rt, "the stored capture", &input, &mut out, &mut rows)?;
     show_into(rt, "the same once more", front(&out, n), n, 0)
 }
 
-fn main(rt: HostRuntime) -> std::io::Result<()> {
+fn main(rt: HostRuntime) -> io::Result<()> {
     stored(&rt)?;
     bounds::each(&rt)?;
     traps::each(&rt)?;

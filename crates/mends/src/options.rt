@@ -1,5 +1,5 @@
 // Packets with IPv4 options, each the one of its capture.
-use crate::places::{put_bytes, put_record};
+use crate::places::{captured, changed};
 use crate::shown;
 use crate::shown::show_into;
 use crate::traps::show;
@@ -7,14 +7,12 @@ use ezpkt::part::front;
 use std::io;
 
 // A capture of one packet, and what it is mended to once more.
-fn twice(rt: &impl Print, what: &str, packet: &[u8]) -> io::Result<()> {
-    let mut c = [0u8; 128];
-    let _ = pcap::write_header(&mut c);
-    put_record(0, 0, packet, 24, &mut c);
-    let n = packet.len().wrapping_add(40);
+fn twice(rt: &(impl Print + AllocGlobal), what: &str, packet: &[u8]) -> io::Result<()> {
+    let c = captured(rt, packet)?;
+    let n = c.len();
     let mut out = [shown::BYTE; 128];
     let mut rows = [[shown::NUMBER; 4]; 2];
-    shown::show(rt, what, front(&c, n), &mut out, &mut rows)?;
+    shown::show(rt, what, &c, &mut out, &mut rows)?;
     show_into(rt, "the same once more", front(&out, n), n, 0)
 }
 
@@ -24,14 +22,12 @@ fn datagram() -> [u8; 34] {
 }
 
 // .. with other bytes at a place.
-fn lap(rt: &impl Print, what: &str, at: usize, bytes: &[u8]) -> io::Result<()> {
-    let mut packet = datagram();
-    put_bytes(bytes, at, &mut packet);
-    twice(rt, what, &packet)
+fn lap(rt: &(impl Print + AllocGlobal), what: &str, at: usize, bytes: &[u8]) -> io::Result<()> {
+    twice(rt, what, &changed(datagram(), at, bytes))
 }
 
 // Those that the check would call good.
-fn laps(rt: &impl Print) -> io::Result<()> {
+fn laps(rt: &(impl Print + AllocGlobal)) -> io::Result<()> {
     lap(
         rt,
         "router alert and a UDP datagram that sums to 0000",
@@ -43,15 +39,14 @@ fn laps(rt: &impl Print) -> io::Result<()> {
 }
 
 // An ICMP echo behind router alert, both its checksums right, with other bytes at a place.
-fn echo(rt: &impl Print, what: &str, at: usize, bytes: &[u8]) -> io::Result<()> {
-    let mut packet =
+fn echo(rt: &(impl Print + AllocGlobal), what: &str, at: usize, bytes: &[u8]) -> io::Result<()> {
+    let packet =
         *b"\x46\x00\x00\x20\x00\x00\x00\x00\x40\x01\xd1\xd6\x0a\x00\x00\x01\x0a\x00\x00\x02\x94\x04\x00\x00\x08\x00\xe5\xcb\x12\x34\x00\x00";
-    put_bytes(bytes, at, &mut packet);
-    twice(rt, what, &packet)
+    twice(rt, what, &changed(packet, at, bytes))
 }
 
 // .. of which nothing, the option, its own checksum or both checksums are wrong.
-fn echoes(rt: &impl Print) -> io::Result<()> {
+fn echoes(rt: &(impl Print + AllocGlobal)) -> io::Result<()> {
     echo(rt, "router alert and an ICMP echo", 0, b"")?;
     echo(rt, "with a byte of the option blanked", 20, b"\x00")?;
     echo(rt, "with the option blanked", 20, b"\x00\x00\x00\x00")?;
@@ -66,7 +61,7 @@ fn echoes(rt: &impl Print) -> io::Result<()> {
 }
 
 // A TCP segment behind 40 bytes of options; both its checksums are wrong.
-fn segment(rt: &impl Print) -> io::Result<()> {
+fn segment(rt: &(impl Print + AllocGlobal)) -> io::Result<()> {
     twice(
         rt,
         "40 bytes of options and a TCP segment",
@@ -75,14 +70,12 @@ fn segment(rt: &impl Print) -> io::Result<()> {
 }
 
 // Packets that the check refuses, whatever their checksums, with other bytes at a place: they keep what they have.
-fn kept(rt: &impl Print, what: &str, at: usize, bytes: &[u8]) -> io::Result<()> {
-    let mut packet = datagram();
-    put_bytes(bytes, at, &mut packet);
-    show(rt, what, &packet)
+fn kept(rt: &(impl Print + AllocGlobal), what: &str, at: usize, bytes: &[u8]) -> io::Result<()> {
+    show(rt, what, &changed(datagram(), at, bytes))
 }
 
 // .. among them those whose lengths are wrong.
-fn refused(rt: &impl Print) -> io::Result<()> {
+fn refused(rt: &(impl Print + AllocGlobal)) -> io::Result<()> {
     kept(rt, "router alert, with MF set", 6, b"\x20\x00")?;
     kept(rt, "with the reserved bit set", 6, b"\x80\x00")?;
     kept(rt, "of protocol 2", 9, b"\x02")?;
@@ -95,7 +88,7 @@ fn refused(rt: &impl Print) -> io::Result<()> {
 }
 
 // All of them.
-pub(crate) fn each(rt: &impl Print) -> io::Result<()> {
+pub(crate) fn each(rt: &(impl Print + AllocGlobal)) -> io::Result<()> {
     laps(rt)?;
     echoes(rt)?;
     segment(rt)?;

@@ -13,7 +13,7 @@ pub const BYTE: u8 = 0xaa;
 
 pub const NUMBER: usize = 7;
 
-// The middle of an answer's line.
+// The middle of an answer's line. (By a match, and no Display: the type is a library's, and each program has its own words for it.)
 fn show_answer(rt: &impl Print, answer: Result<Counts, ListRefusal>) -> io::Result<()> {
     match answer {
         Ok(counts) => print!(rt; "{} bytes, changes: {}", counts.bytes, counts.changed),
@@ -24,7 +24,7 @@ fn show_answer(rt: &impl Print, answer: Result<Counts, ListRefusal>) -> io::Resu
     }
 }
 
-// Whether all these bytes are as before the call.
+// Whether all these bytes are as before the call. (As in exports: no library needs it.)
 fn is_filled(s: &[u8]) -> bool {
     s.iter().all(|b| *b == BYTE)
 }
@@ -47,7 +47,7 @@ fn show_changes(rt: &impl Print, changes: usize, rows: &[[usize; 4]]) -> io::Res
     Ok(())
 }
 
-// The byte at a place, or 0 past the end.
+// The byte at a place, or 0 past the end. (As in eightcars: no library needs it.)
 fn byte_at(s: &[u8], at: usize) -> u8 {
     s.get(at).copied().unwrap_or(0)
 }
@@ -87,7 +87,7 @@ fn show_packet(rt: &impl Print, s: &[u8]) -> io::Result<()> {
     rt.println("")
 }
 
-// A line for each record.
+// A line for each record. (A while: how long a record is, stands in it.)
 fn show_packets(rt: &impl Print, records: &[u8]) -> io::Result<()> {
     let mut rest = records;
     while rest.len() > 0 {
@@ -149,20 +149,15 @@ pub(crate) fn show(
     show_mended(rt, what, capture, answer, out, rows)
 }
 
-// .. with room for so many bytes and changes, at most 65,576 and four.
+// .. with room for so many bytes and changes.
 pub(crate) fn show_into(
-    rt: &impl Print,
+    rt: &(impl Print + AllocGlobal),
     what: &str,
     capture: &[u8],
     room: usize,
     places: usize,
 ) -> io::Result<()> {
-    let mut out = [BYTE; 65576];
-    let mut rows = [[NUMBER; 4]; 4];
-    if room <= 65576 {
-        if places <= 4 {
-            show(rt, what, capture, &mut out[0..room], &mut rows[0..places])?;
-        }
-    }
-    Ok(())
+    let mut out = vec![in rt.alloc(); BYTE; room]?;
+    let mut rows = vec![in rt.alloc(); [NUMBER; 4]; places]?;
+    show(rt, what, capture, &mut out, &mut rows)
 }

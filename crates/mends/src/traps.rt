@@ -1,20 +1,15 @@
 // Packets that a hasty mender gets wrong, each the one of its capture.
-use crate::places::{datagram, put_bytes, put_record};
+use crate::places::{captured, changed, datagram};
 use crate::shown::show_into;
-use ezpkt::part::front;
 use std::io;
 
 // A capture of one packet.
-pub(crate) fn show(rt: &impl Print, what: &str, packet: &[u8]) -> io::Result<()> {
-    let mut c = [0u8; 128];
-    let _ = pcap::write_header(&mut c);
-    put_record(0, 0, packet, 24, &mut c);
-    let n = packet.len().wrapping_add(40);
-    show_into(rt, what, front(&c, n), 128, 2)
+pub(crate) fn show(rt: &(impl Print + AllocGlobal), what: &str, packet: &[u8]) -> io::Result<()> {
+    show_into(rt, what, &captured(rt, packet)?, 128, 2)
 }
 
 // What sums to 0000 has 0000 and not ffff, but for UDP.
-fn ones(rt: &impl Print) -> io::Result<()> {
+fn ones(rt: &(impl Print + AllocGlobal)) -> io::Result<()> {
     show(
         rt,
         "a TCP segment that sums to 0000, with ffff",
@@ -33,7 +28,7 @@ fn ones(rt: &impl Print) -> io::Result<()> {
 }
 
 // Messages that are all zero, bytes after the total length, and parts that are no TCP or ICMP of ours.
-fn others(rt: &impl Print) -> io::Result<()> {
+fn others(rt: &(impl Print + AllocGlobal)) -> io::Result<()> {
     show(
         rt,
         "an ICMP message that is all zero but for a wrong checksum",
@@ -62,14 +57,17 @@ fn others(rt: &impl Print) -> io::Result<()> {
 }
 
 // A UDP datagram that sums to 0000, with other bytes at a place.
-fn show_with(rt: &impl Print, what: &str, at: usize, bytes: &[u8]) -> io::Result<()> {
-    let mut packet = datagram();
-    put_bytes(bytes, at, &mut packet);
-    show(rt, what, &packet)
+fn show_with(
+    rt: &(impl Print + AllocGlobal),
+    what: &str,
+    at: usize,
+    bytes: &[u8],
+) -> io::Result<()> {
+    show(rt, what, &changed(datagram(), at, bytes))
 }
 
 // Those that the check would call good.
-fn datagrams(rt: &impl Print) -> io::Result<()> {
+fn datagrams(rt: &(impl Print + AllocGlobal)) -> io::Result<()> {
     show_with(
         rt,
         "a UDP datagram that sums to 0000, with 1234",
@@ -82,7 +80,7 @@ fn datagrams(rt: &impl Print) -> io::Result<()> {
 }
 
 // Packets that the check refuses, whatever their checksums, keep what they have,
-fn refused(rt: &impl Print) -> io::Result<()> {
+fn refused(rt: &(impl Print + AllocGlobal)) -> io::Result<()> {
     show_with(rt, "with MF set", 6, b"\x20\x00")?;
     show_with(rt, "with an offset", 6, b"\x00\x01")?;
     show_with(rt, "with the reserved bit set", 6, b"\x80\x00")?;
@@ -90,7 +88,7 @@ fn refused(rt: &impl Print) -> io::Result<()> {
 }
 
 // .. among them those whose lengths are wrong.
-fn cut(rt: &impl Print) -> io::Result<()> {
+fn cut(rt: &(impl Print + AllocGlobal)) -> io::Result<()> {
     show_with(rt, "with a first byte of 0x55", 0, b"\x55")?;
     show_with(rt, "with a first byte of 0x44", 0, b"\x44")?;
     show_with(rt, "with a first byte of 0x46", 0, b"\x46")?;
@@ -106,7 +104,7 @@ fn cut(rt: &impl Print) -> io::Result<()> {
 }
 
 // All of them.
-pub(crate) fn each(rt: &impl Print) -> io::Result<()> {
+pub(crate) fn each(rt: &(impl Print + AllocGlobal)) -> io::Result<()> {
     ones(rt)?;
     others(rt)?;
     datagrams(rt)?;

@@ -3,7 +3,7 @@ use inspect::check::Verdict;
 use pkt::refusal::Refusal;
 use std::io;
 
-// Which checksum.
+// Which checksum. (A number, as mending's rows have it: mending::IPV4 says why. As mend's: a program has no library of its own.)
 fn field_name(which: usize) -> &'static str {
     if which == mending::IPV4 {
         "IPv4"
@@ -21,7 +21,7 @@ pub(crate) fn show_change(rt: &impl Print, change: [usize; 4]) -> io::Result<()>
     )
 }
 
-// What the check answers.
+// What the check answers. (By a match, and no Display: the type is a library's, and each program has its own words for it.)
 pub(crate) fn show_checked(rt: &impl Print, answer: Result<Verdict, Refusal>) -> io::Result<()> {
     match answer {
         Ok(Verdict::Good) => print!(rt; "good:"),

@@ -16,12 +16,13 @@ const MOST: usize = 2097152;
 // room.
 const MOST_WRITTEN: usize = 48 + 36 * (MOST - 24) / 17;
 
-// Says on standard error what failed, and why.
+// Says on standard error what failed, and why. (In each program for itself: no contract can say what a stream takes, and nothing public goes without
+// one.)
 fn say_failed(rt: &impl Eprint, what: &str, e: impl Display + Drop) {
     let _ = eprintln!(rt; "pcapng: {what}: {e}");
 }
 
-// Why nothing is written.
+// Why nothing is written. (The texts, here and below, are each program's own.)
 fn say_refused(rt: &impl Eprint, refusal: Refusal) {
     let why = if refusal == Refusal::NotCapture {
         "the input does not begin with the header of a classic pcap capture, little-endian, version 2.4, with microseconds, snap length 65,535 and link type 101"
@@ -79,7 +80,7 @@ fn run(rt: &(impl Print + Eprint + Input + AllocGlobal)) -> Result<(), AllocErro
     Ok(())
 }
 
-// Whether there are words behind the program's name.
+// Whether there are words behind the program's name. (In each program for itself: no contract can say which words it has.)
 fn has_words(rt: &impl Env) -> bool {
     !matches!(rt.arg(1, &mut [0u8; 1]), Err(FillError::NotPresent))
 }

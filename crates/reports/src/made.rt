@@ -42,7 +42,7 @@ pub(crate) fn put_segment(seq: u32, flags: u8, payload: &[u8], at: usize, out: &
     }
 }
 
-// Bytes at a place, where there is room for them.
+// Bytes at a place, where there is room for them. (As in mends: no library needs it, and there it would be public.)
 pub(crate) fn put_bytes(bytes: &[u8], at: usize, out: &mut [u8]) {
     if let Some(rest) = out.get_mut(at..) {
         if bytes.len() <= rest.len() {

@@ -24,7 +24,8 @@ fn show_report(rt: &impl Print, r: Report) -> io::Result<()> {
     println!(rt; ", failed {}, others {}", r.failed, r.others)
 }
 
-// The line for the flow between two ends: its report, or the refusal.
+// The line for the flow between two ends: its report, or the refusal. (By a match, and no Display: the type is a library's, and each program has its
+// own words for it.)
 pub(crate) fn show_between(
     rt: &impl Print,
     what: &str,
