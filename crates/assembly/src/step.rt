@@ -6,7 +6,7 @@ ghost use Rattle.assembly.specs.Answers.{reply, Moves, standing_of, stands};
 
 use crate::{Key, Outcome, Rec, Taken, buffer, compare, map, record};
 
-// How an assembly stands: a complete datagram with its length.
+// How an assembly stands: a complete datagram with its length. Outcome is without the length, which take does not answer: both are public.
 #[derive(Clone, Copy, PartialEq, Eq, Drop)]
 pub enum Progress {
     Waiting,
