@@ -4,13 +4,12 @@ use mathlib.Core.List.{List, [], ◌∷◌, append-nil, append_assoc}
 use Prim.Native.Nat.{ℕ, suc, ◌+◌, ◌-◌, ◌≤◌, ◌<◌}
 use native.Mathlib.Decide.{ℕ_discrete}
 use native.Mathlib.Omega.{arith}
-use lib.ListN.{length, get_or, set, take, drop, replicate, length-set, length-replicate}
-use lib.Seq.{sets, length-sets, sets-eq, get_or-set_same, get_or-set_other, ext_get_or, drop-drop}
+use lib.ListN.{length, get_or, set, take, drop, replicate, length-set, length-drop, length-replicate}
+use lib.Seq.{sets, sets-eq, length-take-le, get_or-set_same, get_or-set_other, drop-drop}
 use borrow.Rule.Slice.PartMut.{mid_of, put_mid}
 use Rattle.pkt.proofs.Parts.{mid_tail, mid_length, post_tail}
 use Rattle.pkt.proofs.Written.{copy_written}
-use Rattle.assembly.proofs.Marks.{get_d_zeros}
-use Rattle.pkt.specs.Written.{written, zeros}
+use Rattle.pkt.specs.Written.{written}
 
 -- ---- bytes stored one after the other
 pub get_d_sets_out : (l : List ℕ) (i : ℕ) (vs : List ℕ) (j : ℕ) → (i ≤ j → i + length vs ≤ j) → get_or (sets l i vs) j 0 ≡ get_or l j 0
@@ -31,30 +30,15 @@ get_d_sets_in l i (v ∷ vs) j fits lo hi =
         rw (q, z) (get_d_sets_out (set l i v) (suc i) vs i (λ h. absurd (omega arith)) ∙ get_or-set_same l i v 0 (omega arith))
     go below (no ne) = let z : j - i ≡ suc (j - suc i) = omega arith in rw z (below (omega arith))
 
--- ---- the fill goes on where it stands
-pub fill_left : (l : List ℕ) (i to v : ℕ) → i < to → sets l i (replicate (to - i) v) ≡ sets (set l i v) (i + 1) (replicate (to - (i + 1)) v)
-fill_left l i to v h =
-    let e : i + 1 ≡ suc i = omega arith in
-    let f : to - i ≡ suc (to - (i + 1)) = omega arith in
-    rw (f, e) refl
-
-pub fill_done : (l : List ℕ) (i to v : ℕ) → to ≤ i → sets l i (replicate (to - i) v) ≡ l
-fill_done l i to v h = let e : to - i ≡ 0 = omega arith in rw e refl
-
--- a buffer filled with zero from end to end
-pub fill_zeros : (l : List ℕ) → sets l 0 (replicate (length l - 0) 0) ≡ zeros (length l)
-fill_zeros l =
-    let e : length l - 0 ≡ length l = omega arith in
-    rw e
-    (ext_get_or 0 (sets l 0 (zeros (length l))) (zeros (length l)) (length-sets l 0 (zeros (length l)) ∙ sym (length-replicate (length l) 0))
-    (λ k hk. at k (rw length-sets at hk)))
-  where
-    at : (k : ℕ) → k < length l → get_or (sets l 0 (zeros (length l))) k 0 ≡ get_or (zeros (length l)) k 0
-    at k hk =
-        let n : length (zeros (length l)) ≡ length l = length-replicate (length l) 0 in
-        get_d_sets_in l 0 (zeros (length l)) k (omega arith) (omega arith) (omega arith)
-        ∙ get_d_zeros (length l) (k - 0)
-        ∙ sym (get_d_zeros (length l) k)
+-- ---- a fill of the part from `at` up to, not including, `to`
+pub filled : (l e : List ℕ) (at to v : ℕ) → at ≤ to → to ≤ length l
+    → e ≡ replicate (length (mid_of at (to - at) l)) v
+    → put_mid at (to - at) l e ≡ sets l at (replicate (to - at) v)
+filled l e at to v h k q =
+    let n : length (mid_of at (to - at) l) ≡ to - at = length-take-le (to - at) (drop at l) (omega (arith, length-drop at l)) in
+    let m : length (replicate (to - at) v) ≡ to - at = length-replicate (to - at) v in
+    rw (q, n, drop-drop)
+    (sym (sets-eq (replicate (to - at) v) l at (omega arith) ∙ rw m (append_assoc (take at l) (replicate (to - at) v) (drop (at + (to - at)) l))))
 
 -- ---- a copy onto `&mut d[at..]`
 pub copied : (d xs e : List ℕ) (at : ℕ) → at + length xs ≤ length d

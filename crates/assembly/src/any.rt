@@ -5,6 +5,7 @@ ghost use Rattle.assembly.specs.View.{view};
 ghost use Rattle.assembly.specs.Answers.{progress_says};
 ghost use Rattle.assembly.specs.Calls.{ready, Puts, any_progress};
 
+use crate::step::Piece;
 use crate::{Key, Progress, Rec, Taken, carried, record, step};
 use inspect::header::IpRead;
 use pkt::refusal::Refusal;
@@ -58,7 +59,12 @@ pub fn put(
         return Err(Refusal::BadAssembly);
     }
     let p = carried::fit(payload.len(), body.len(), h)?;
-    Ok(step::take(payload, map, rec, p.off as usize, p.mf, body))
+    let piece = Piece {
+        off: p.off as usize,
+        mf: p.mf,
+        body,
+    };
+    Ok(step::take(payload, map, rec, piece))
 }
 
 // How the assembly stands: a complete datagram is the first so many bytes of the payload buffer.

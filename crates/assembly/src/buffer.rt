@@ -11,20 +11,18 @@ pub(crate) fn fill(b: &mut [u8], from: usize, to: usize, v: u8)
     requires to_in_bounds { to ≤ length b.old }
     ensures { b.new ≡ sets b.old from (replicate (to - from) v) }
 {
-    for i in from..to {
-        b[i] = v;
-    }
+    b[from..to].fill(v);
 }
 
 // Zeroes a buffer.
 pub(crate) fn clear(b: &mut [u8])
     ensures { b.new ≡ zeros (length b.old) }
 {
-    let n = b.len();
-    fill(b, 0, n, 0);
+    b.fill(0);
 }
 
-// Copies body into payload from place `at` on.
+// Copies body into payload from place `at` on. packet has it as `place`, whose promise is in that crate's own word, placed: one function for both
+// would be public in pkt, for one line.
 pub(crate) fn copy_in(payload: &mut [u8], at: usize, body: &[u8])
     requires { at + length body.now ≤ length payload.old }
     ensures { payload.new ≡ sets payload.old at body.now }

@@ -27,7 +27,7 @@ impl From<Misfit> for Refusal {
     }
 }
 
-// The key that a packet with this header has.
+// The key that a packet with this header has. No From<IpRead>: it is public, with a promise and a row of its own.
 pub fn key_of(h: IpRead) -> Key
     ensures { result ≡ key_of h }
 {

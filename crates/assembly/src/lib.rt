@@ -25,7 +25,7 @@ const MAP_BYTES: usize = 1024;
 
 // "identification, source, destination and protocol"
 #[repr(C)]
-#[derive(Clone, Copy, PartialEq, Eq, Drop)]
+#[derive(Clone, Copy, Default, PartialEq, Eq, Drop)]
 pub struct Key {
     pub saddr: u32,
     pub daddr: u32,
@@ -34,7 +34,7 @@ pub struct Key {
 }
 
 // What is kept of an assembly beside its payload buffer and its map.
-#[derive(Clone, Copy, PartialEq, Eq, Drop)]
+#[derive(Clone, Copy, Default, PartialEq, Eq, Drop)]
 pub struct Rec {
     pub key: Key,
     pub total: Option<usize>,
@@ -74,7 +74,7 @@ pub fn open(key: Key, payload: &mut [u8], map: &mut [u8]) -> Result<Rec, Refusal
     Ok(step::wipe(payload, map, key, false))
 }
 
-// Whether the record and the buffers are an assembly's.
+// Whether the record and the buffers are an assembly's. As any's is_ready, but for the sizes: to hand that test in would be longer than both.
 fn is_usable(rec: Rec, payload: &[u8], map: &[u8]) -> bool
     ensures { result ≡ usable capacity map_bytes (view rec payload.now map.now) }
 {

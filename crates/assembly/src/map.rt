@@ -20,7 +20,7 @@ pub(crate) fn is_marked(map: &[u8], k: usize) -> bool
     (map[b] >> (k % 8) as u32) % 2 == 1
 }
 
-// Marks the blocks from `from` up to, not including, `to`, one by one.
+// Marks the blocks from `from` up to, not including, `to`, one by one. Two places here, below and in fill: a Range would say no more than they do.
 fn mark_each(map: &mut [u8], from: usize, to: usize)
     requires from_le_to { from ≤ to }
     requires to_bound { to ≤ 8 * length map.old }

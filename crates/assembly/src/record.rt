@@ -1,4 +1,5 @@
-// Total and floor: what a piece with this MF and end does to them.
+// Total and floor: what a piece with this MF and end does to them. No methods of Rec: none reads its key or spoilt, and each promise
+// is of these two alone.
 ghost use Rattle.std.specs.Prelude.{◌≡◌, ◌<◌, ◌^◌};
 ghost use Rattle.assembly.specs.Assembly.{end_clash, new_floor, new_total, total_fits, record_fits};
 

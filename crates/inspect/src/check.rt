@@ -39,6 +39,7 @@ fn is_piece(h: IpRead) -> bool
     h.mf || h.off != 0
 }
 
+// The protocol stays the header's number here and below, and is no Kind: it may be any number, and 12 refuses those that are of no Kind.
 fn is_other(protocol: u8) -> bool
     ensures { result ≡ is_other protocol }
 {
@@ -117,6 +118,7 @@ fn whole_kind(h: IpRead, part: &[u8]) -> Result<Kind, Refusal>
     Ok(kind_of(h.protocol, part))
 }
 
+// `length part ≤ most_ip` is asked here and of sums and both: a slice of a packet has no type of its own that could keep it.
 // Whether a transport part verifies behind the pseudo header with the addresses of its header.
 fn verify_part(h: IpRead, protocol: u8, part: &[u8]) -> bool
     requires { length part.now ≤ most_ip }

@@ -26,7 +26,8 @@ pub struct IpRead {
     pub end: usize,
 }
 
-// The byte at a place.
+// The byte at a place. One function for each width, told by one field_at: from_be_bytes is each type's own, and a trait for it would be longer than
+// the three.
 #[tactic(auto, using(crate::proofs::Numbers::field_one))]
 pub(crate) fn be8(s: &[u8], at: usize) -> u8
     requires { at + 1 ≤ length s.now }

@@ -48,6 +48,8 @@ fn put_number(x: u16, at: usize, out: &mut [u8])
     put_at(low, at + 1, out);
 }
 
+// out, rows and the count of changes go apart here and below: out and rows are lent again in each turn of pass, and a struct of them would be taken
+// apart there.
 // The which-th field f of record k, whose packet stands at a place: its number is put, and where that changes it, the change is listed behind
 // the others. How many changes there are then.
 #[tactic(auto, unfolding(crate::specs::Pass::SumsAsk))]
@@ -135,7 +137,8 @@ fn fitting(size: usize, changed: usize, room: usize, places: usize) -> Result<Co
     })
 }
 
-// Mends a capture into out, and lists each change as a row of rows: the record's number from 0, IPV4 or TRANSPORT, the old number, the new one.
+// Mends a capture into out, and lists each change as a row of rows: the record's number from 0, IPV4 or TRANSPORT, the old number, the new one:
+// numbers throughout, for the reason that IPV4 has.
 // Or refuses, and leaves both as they were. The first pass counts, and puts nothing anywhere.
 pub fn mend(capture: &[u8], out: &mut [u8], rows: &mut [[usize; 4]]) -> Result<Counts, ListRefusal>
     ensures { Mends capture.now out.old rows.old result out.new rows.new }

@@ -29,7 +29,7 @@ pub struct Sums {
     pub part: Option<SumField>,
 }
 
-// The number in two bytes.
+// The number in two bytes, as inspect has it for itself: public there, this one line would need a row and wrong programs of its own.
 #[tactic(auto, using(inspect::proofs::Numbers::field_two))]
 fn be16(s: &[u8], at: usize) -> u16
     requires { at + 2 ≤ length s.now }

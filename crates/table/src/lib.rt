@@ -8,7 +8,7 @@ ghost use Rattle.pkt.specs.Written.{zeros};
 ghost use Rattle.assembly.specs.Assembly.{opened, step};
 ghost use Rattle.assembly.specs.Carried.{key_of};
 ghost use Rattle.assembly.specs.View.{record_of, view, piece};
-ghost use Rattle.table.specs.Slots.{slots, slot_bytes, slot_map, part_of, with_part, state_at, no_key, free_slot, holds_key, key_from, free_from, slot_fits, all_fit, key_again, key_twice, table_fits, Sized};
+ghost use Rattle.table.specs.Slots.{slots, slot_bytes, slot_map, part_of, with_part, state_at, free_slot, holds_key, key_from, free_from, slot_fits, all_fit, key_again, key_twice, table_fits, Sized};
 ghost use Rattle.table.specs.Table.{placing, opened_at, place_for, stepped_by, piece_for, table_take, Tables, Discards, TakesOut};
 ghost use Rattle.table.specs.Steps.{Stored, Lands, landing_of, PutAsks, Fitting, Occupied, length_in, MovedOut, OutOf};
 
@@ -23,8 +23,9 @@ const SLOT_BYTES: usize = 8192;
 
 const SLOT_MAP: usize = 128;
 
-// An assembly in progress, or none: then the record says nothing. No Option, since a free slot may hold any bytes, as the tables of the program eightcars do.
-#[derive(Clone, Copy, Drop)]
+// An assembly in progress, or none: then the record says nothing. No Option: by document 02 a free slot has no key, whatever its bytes, and the calls'
+// promises say so (holds_key, slot_fits).
+#[derive(Clone, Copy, Default, Drop)]
 pub struct Slot {
     pub used: bool,
     pub rec: Rec,
@@ -45,28 +46,11 @@ pub struct After<T> {
     pub answer: Result<T, Refusal>,
 }
 
-fn no_key() -> Key
-    ensures { result ≡ no_key }
-{
-    Key {
-        saddr: 0,
-        daddr: 0,
-        id: 0,
-        protocol: 0,
-    }
-}
-
+// The slot that a new table has eight times, and that an emptied one becomes.
 fn free() -> Slot
     ensures { result ≡ free_slot }
 {
-    let key = no_key();
-    let rec = Rec {
-        key,
-        total: None,
-        floor: 0,
-        spoilt: false,
-    };
-    Slot { used: false, rec }
+    Slot::default()
 }
 
 // An empty table.
@@ -173,7 +157,8 @@ fn is_usable(t: [Slot; 8], payloads: usize, maps: usize) -> bool
     !key_twice(t)
 }
 
-// Opens slot i for a key: its part of each buffer becomes zero.
+// Opens slot i for a key: its part of each buffer becomes zero. Here and below table, payloads and maps are three arrays by one index, and go apart: by
+// T-03 the public calls lend the two buffers.
 fn open_at(key: Key, i: usize, payloads: &mut [u8], maps: &mut [u8]) -> Rec
     requires { Sized i (length payloads.old) (length maps.old) }
     ensures { (result ≡ record_of (opened key slot_bytes slot_map)) × (payloads.new ≡ with_part slot_bytes i (zeros slot_bytes) payloads.old)
@@ -343,7 +328,7 @@ fn empty_at(table: [Slot; 8], i: usize, payloads: &mut [u8], maps: &mut [u8]) ->
     ensures { (result ≡ set table i free_slot) × (payloads.new ≡ with_part slot_bytes i (zeros slot_bytes) payloads.old)
         × (maps.new ≡ with_part slot_map i (zeros slot_map) maps.old) }
 {
-    open_at(no_key(), i, payloads, maps);
+    open_at(Key::default(), i, payloads, maps);
     let slot = free();
     update(table, i, slot)
 }

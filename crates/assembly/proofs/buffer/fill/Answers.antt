@@ -1,11 +1,8 @@
--- The fill that is left, from where the loop stands, is the whole fill.
-use borrow.Author.Rules.{rules}
-use mathlib.Core.Path.{sym, ◌∙◌}
-use Rattle.assembly.proofs.Bytes.{fill_left, fill_done}
+-- The slice's method fills the part, which is the value stored there.
+use Rattle.assembly.proofs.Bytes.{filled}
 use Rattle.assembly.proofs.buffer.fill.Goals as goal
 
-pub loop-i-preserved : goal.loop-i-preserved
-loop-i-preserved c = (search rules, sym (fill_left _ _ _ _ c.loop-i-test.true) ∙ c.loop-i.invariant.1)
-
 pub returns : goal.returns
-returns c = sym (fill_done _ _ _ _ c.loop-i-test.false) ∙ c.loop-i.invariant.1
+returns c =
+    let a = c.args in
+    filled a.b.now _ a.from a.to a.v c.requires.from_le_to c.requires.to_in_bounds (c.fill.ensures.after (λ y e. e))
