@@ -21,7 +21,7 @@ pub const SPOILT: u8 = 3;
 
 // What is kept of an assembly beside its payload buffer and its map. Where known is false, total does not count: C has no Option.
 #[repr(C)]
-#[derive(Clone, Copy, Drop)]
+#[derive(Clone, Copy, Default, Drop)]
 pub struct wb_assembly {
     pub key: Key,
     pub known: bool,
@@ -82,23 +82,6 @@ impl From<Rec> for wb_assembly {
     }
 }
 
-fn nothing() -> wb_assembly
-    ensures { result ≡ no_assembly }
-{
-    wb_assembly {
-        key: Key {
-            saddr: 0,
-            daddr: 0,
-            id: 0,
-            protocol: 0,
-        },
-        known: false,
-        total: 0,
-        floor: 0,
-        spoilt: false,
-    }
-}
-
 impl From<Result<Rec, Refusal>> for wb_opened {
     ghost from_gives = { λ answer told. told ≡ opened_for (says answer) };
 
@@ -110,7 +93,7 @@ impl From<Result<Rec, Refusal>> for wb_opened {
             },
             Err(refusal) => wb_opened {
                 status: refusal.number(),
-                assembly: nothing(),
+                assembly: wb_assembly::default(),
             },
         }
     }
