@@ -1,7 +1,8 @@
 // What is shown of a packet that was built twice.
 use std::io;
 
-// A flow with marks and one without, on which the same calls are made.
+// A flow with marks and one without, on which the same calls are made. Each kind of flow has its own `both` for that:
+// a call answers one length, a flow and a length, or a flow and up to three ends.
 #[derive(Clone, Copy, Drop)]
 pub(crate) struct Flows<F> {
     pub marked: F,
