@@ -17,7 +17,8 @@ use std::env::Args;
 use std::io::{Error, Read};
 use words::Ask;
 
-// Says on standard error what failed, and why.
+// Says on standard error what failed, and why. (In each program for itself: no contract can say what a stream takes, and nothing public goes without
+// one.)
 fn say_failed(rt: &impl Eprint, what: &str, e: Error) {
     let _ = eprintln!(rt; "plan: {what}: {e}");
 }
