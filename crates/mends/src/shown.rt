@@ -90,7 +90,7 @@ fn show_packet(rt: &impl Print, s: &[u8]) -> io::Result<()> {
 // A line for each record. (A while: how long a record is, stands in it.)
 fn show_packets(rt: &impl Print, records: &[u8]) -> io::Result<()> {
     let mut rest = records;
-    while rest.len() > 0 {
+    while !rest.is_empty() {
         show_packet(rt, rest)?;
         let n = taken(rest);
         rest = &rest[n..];
