@@ -108,7 +108,8 @@ fn put(capture: &[u8], spot: Spot, changes: usize, out: &mut [u8], rows: &mut [[
 }
 
 // A pass through the capture: each number that is worked out anew is put at its place of out, which holds a copy of the capture, and each change
-// into the list; what lies past the end of either is left out. How many changes there are.
+// into the list; what lies past the end of either is left out. How many changes there are. (A while over steps, as the scope paper has them: the reader
+// is no iterator.)
 fn pass(capture: &[u8], out: &mut [u8], rows: &mut [[usize; 4]]) -> Result<usize, ListRefusal>
     ensures { Passes capture.now out.old rows.old result out.new rows.new }
 {

@@ -156,7 +156,8 @@ impl Packet {
         })
     }
 
-    // How many bytes stand before the packet.
+    // How many bytes stand before the packet. (This call and those below that need the packet's places ask is_valid themselves: their proofs have the
+    // bounds from the test.)
     pub fn headroom(self, buf: &[u8]) -> Result<usize, Refusal>
         ensures { says result ≡ if_valid self (length buf.now) (gives self.headroom) }
     {
