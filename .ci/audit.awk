@@ -162,16 +162,16 @@ FILENAME ~ /\.rt$/ {
         if (module == "lib") open[within] = 1
     }
     if (module == "lib" && match($0, /^pub mod [a-z0-9_]+/)) open[within substr($0, 9, RLENGTH - 8) "::"] = 1
-    if (/^impl /) { type = ($2 == "Default" ? $4 : $2) "::"; held = "" }
+    if (/^impl /) { defaults = $2 == "Default"; type = (defaults ? $4 : $2) "::"; held = "" }
     if (/^ *ghost is_default = /) { held = $0; gsub(/[^A-Za-z0-9_-]+/, " ", held) }
-    if (/^}/) type = ""
+    if (/^}/) { type = ""; defaults = 0 }
     if (match($0, /^ *(pub(\(crate\))? )?(extern "C" )?(fn|struct|enum|const) [A-Za-z0-9_]+/)) {
         name = substr($0, RSTART, RLENGTH); sub(/.* /, "", name); name = within type name
         item[name] = 1
         in_contract = / fn |^fn /
         if (in_contract) { contract[name] = ""; promised = 0; if (/^ *pub /) public[name] = within }
         # what an impl Default promises stands in its ghost member
-        if (held != "" && / default\(/) { contract[name] = held; public[name] = within; in_contract = 0 }
+        if (defaults && / default\(/) { contract[name] = held; public[name] = within; in_contract = 0 }
     }
     if (in_contract) {
         if (/^ *requires /) promised = 0

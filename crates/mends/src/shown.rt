@@ -47,7 +47,7 @@ fn show_changes(rt: &impl Print, changes: usize, rows: &[[usize; 4]]) -> io::Res
     Ok(())
 }
 
-// The byte at a place, or 0 past the end. (As in eightcars: no library needs it.)
+// The byte at a place, or 0 past the end. (No library needs it.)
 fn byte_at(s: &[u8], at: usize) -> u8 {
     s.get(at).copied().unwrap_or(0)
 }
