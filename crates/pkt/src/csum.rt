@@ -1,5 +1,5 @@
 // The inside of the checksum, as RFC 1071 says it: a 16-bit running sum, the carry put back after each addition. No other crate reaches it.
-ghost use Rattle.std.specs.Prelude.{◌≡◌, ◌+◌, ◌-◌, ◌*◌, ◌≤◌, length};
+ghost use Rattle.std.specs.Prelude.{◌≡◌, ◌+◌, ◌-◌, ◌*◌, ◌≤◌, ◌<◌, length};
 ghost use Rattle.pkt.specs.Rfc1071 as rfc;
 ghost use Rattle.pkt.specs.Sums.{total, canon, four_words};
 
@@ -31,45 +31,41 @@ fn four(p: &[u8]) -> u16
     plus(first, second)
 }
 
-// A word of what is left: an odd last octet is the high one.
-fn last_word(p: &[u8]) -> u16
-    requires { length p.now ≤ 2 }
-    ensures { result ≡ total p.now }
+// A word of what is left over: an odd last octet is the high one.
+fn last_word(rest: &[u8]) -> u16
+    requires { length rest.now < 2 }
+    ensures { result ≡ total rest.now }
 {
-    match p {
-        [hi, lo] => word(*hi, *lo),
+    match rest {
         [hi] => word(*hi, 0),
         _ => 0,
     }
 }
 
-// The sum of the words of buf, one after the other.
+// The sum of the words of buf, one after the other, and of what is left over.
 fn singly(buf: &[u8]) -> u16
     ensures { canon result ≡ canon (total buf.now) }
 {
+    let pairs = buf.chunks_exact(2);
+    let rest = pairs.remainder();
     let mut sum: u16 = 0;
-    for pair in buf.chunks(2) {
-        sum = plus(sum, last_word(pair));
+    for pair in pairs {
+        sum = plus(sum, word(pair[0], pair[1]));
     }
-    sum
-}
-
-// The sum of the words of eight octets, or of the last ones.
-fn eight(p: &[u8]) -> u16
-    ensures { canon result ≡ canon (total p.now) }
-{
-    if p.len() == 8 { four(p) } else { singly(p) }
+    plus(sum, last_word(rest))
 }
 
 // The sum of the words of buf: four in a turn, and what is left one by one.
 pub(crate) fn ip_csum_partial(buf: &[u8]) -> u16
     ensures { canon result ≡ canon (total buf.now) }
 {
+    let parts = buf.chunks_exact(8);
+    let rest = parts.remainder();
     let mut sum: u16 = 0;
-    for part in buf.chunks(8) {
-        sum = plus(sum, eight(part));
+    for part in parts {
+        sum = plus(sum, four(part));
     }
-    sum
+    plus(sum, singly(rest))
 }
 
 // RFC 1071, 1, (2): the one's complement of the sum. There is nothing left to fold.
