@@ -67,7 +67,7 @@ fits_slot far n h p e =
     any_number slot_bytes far 20 n p (ap (fit_answer slot_bytes far n) same ∙ e)
 
 module _ (t : List Slot) (d m : List ℕ) (h : IpRead) (b : List ℕ) where
-  pub piece_refused : (e : Refusal) → fit_answer slot_bytes 20 (length b) h ≡ refused (number_of e) → piece_for t d m h b ≡ refused (number_of e)
+  pub piece_refused : (n : ℕ) → fit_answer slot_bytes 20 (length b) h ≡ refused n → piece_for t d m h b ≡ refused n
   unfolding piece_for
   piece_refused n e = ap (λ (x : Answer IpRead). and_then x (λ g. mapped (stepped_by (piece h.off h.mf b)) (place_for t d m (key_of h)))) e
 

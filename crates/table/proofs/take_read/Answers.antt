@@ -13,13 +13,13 @@ pub returns-in-Err-NotBlocks : goal.returns-in-Err-NotBlocks
 returns-in-Err-NotBlocks c =
     let a = c.args in
     let e = rw c.in-Err-NotBlocks.field-0-is at (c.in-Err-NotBlocks.ensures 20) in
-    lands_as _ _ _ _ _ _ _ (piece_refused a.table a.payloads.now a.maps.now a.h a.body.now NotBlocks (sym e)) (refused_lands NotBlocks _ _)
+    lands_as _ _ _ _ _ _ _ (piece_refused a.table a.payloads.now a.maps.now a.h a.body.now 9 (sym e)) (refused_lands NotBlocks _ _)
 
 pub returns-in-Err-TooFar : goal.returns-in-Err-TooFar
 returns-in-Err-TooFar c =
     let a = c.args in
     let e = rw c.in-Err-TooFar.field-0-is at (c.in-Err-TooFar.ensures 20) in
-    lands_as _ _ _ _ _ _ _ (piece_refused a.table a.payloads.now a.maps.now a.h a.body.now TooFarForSlot (sym e)) (refused_lands TooFarForSlot _ _)
+    lands_as _ _ _ _ _ _ _ (piece_refused a.table a.payloads.now a.maps.now a.h a.body.now 20 (sym e)) (refused_lands TooFarForSlot _ _)
 
 pub returns-in-Ok : goal.returns-in-Ok
 returns-in-Ok c =
