@@ -1,6 +1,5 @@
 -- Laws of the checksum's definition.
-use Rattle.std.proofs.Common.{append-nil, add-zero, length-append, min, ◌≡◌, ℕ, zero, suc, ◌+◌, ◌-◌, ◌*◌, ◌/◌, ◌%◌, ◌<◌, ◌≤◌, List, [], ◌∷◌, ◌++◌, length, get_or, drop, sym, refl, ap, ap₂, ◌∙◌, add-one, arith, length-drop, drop_of_length-le, drop-cons, drop-drop}
-use Rattle.std.proofs.Math.Seq.{drop-append-add}
+use Rattle.std.proofs.Common.{append-nil, add-zero, length-append, min, ◌≡◌, ℕ, zero, suc, ◌+◌, ◌-◌, ◌*◌, ◌/◌, ◌%◌, ◌<◌, ◌≤◌, List, [], ◌∷◌, ◌++◌, length, get_or, drop, sym, refl, ap, ◌∙◌, add-one, arith, length-drop, drop_of_length-le, drop-cons, drop-drop}
 use native.Mathlib.Numerals.{add-two}
 use Rattle.pkt.proofs.Bytes.{bytes_append}
 use Rattle.pkt.proofs.Fields.{be_bytes}
@@ -247,10 +246,3 @@ chunk_step k s f l x r e is h w =
     let long : length x ≡ min k (length (x ++ r)) = h ∙ ap (λ (m : List ℕ). min k (length m)) is in
     let sum : s + total x + total r ≡ s + total l = omega (arith, chunk_total k x r e long, ap total is) in
     canon_plus s f (total r) ∙ canon_both (s + f) (s + total x) (total r) (total r) (canon_both s s f (total x) refl w) refl ∙ ap canon sum
-
--- What is left over behind the whole chunks of k stays the same where one of them goes from the front.
-pub left_over : (k : ℕ) (l x r rest : List ℕ) → l ≡ x ++ r → length x ≡ k → length l - length l % k ≡ k + (length r - length r % k)
-    → drop (length l - length l % k) l ≡ rest → drop (length r - length r % k) r ≡ rest
-left_over k l x r rest is h e was =
-    let past : length l - length l % k ≡ length x + (length r - length r % k) = omega (arith, e, h) in
-    sym (drop-append-add x r (length r - length r % k)) ∙ ap₂ drop (sym past) (sym is) ∙ was

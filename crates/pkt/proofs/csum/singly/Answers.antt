@@ -1,36 +1,40 @@
--- A word in a turn: what is summed and what is left fold to the whole.
-use Rattle.std.proofs.Common.{◌≡◌, ℕ, ◌+◌, ◌-◌, ◌*◌, ◌%◌, ◌<◌, List, length, drop, get_or, refl, sym, ap, ◌∙◌, arith, length-append}
+-- What is summed and what is left always fold to the whole; at the end one octet or none is left.
+use Rattle.std.proofs.Common.{◌≡◌, ℕ, ◌+◌, drop, refl, ap, ◌∙◌, zero-add, arith}
 use Rattle.pkt.specs.Sums.{total, canon}
-use Rattle.pkt.proofs.Checksum.{chunk_step, left_over, canon_both, canon_sum, total_two, total_none}
+use Rattle.pkt.proofs.Checksum.{canon_plus, canon_sum, total_two, total_one, total_none}
 use Rattle.pkt.proofs.csum.singly.Goals as goal
 
-pub loop-pair-preserved : goal.loop-pair-preserved
-loop-pair-preserved c =
-    let n = c.in-Some.ensures.steps in
-    let i = c.loop-pair.invariant in
-    let l : List ℕ = c.loop-pair.pair-iterator.rest.now in
-    let x : List ℕ = c.in-Some.pair.now in
-    let r : List ℕ = c.next.new.self.rest.now in
-    let two : length x ≡ 2 = omega (arith, n.1.1, i.0) in
-    let both : length l ≡ length x + length r = ap length n.1.0 ∙ length-append x r in
-    let t : total x ≡ get_or x 0 0 * 256 + get_or x 1 0 + total (drop 2 x) = total_two x 0 (omega arith) in
-    let word : c.word.result ≡ total x = omega (arith, c.word.ensures, t, total_none x 2 (omega arith)) in (
-      n.0 ∙ i.0,
-      ap (λ (m : ℕ). canon (m + total r)) c.plus-sum.ensures
-          ∙ chunk_step 2 c.loop-pair.sum c.word.result l x r refl n.1.0 (omega arith) (ap canon word)
-          ∙ i.1,
-      left_over 2 l x r _ n.1.0 two (omega arith) i.2,
+pub loop-i-init : goal.loop-i-init
+loop-i-init c = (omega arith, refl, rw zero-add)
+
+pub loop-i-preserved : goal.loop-i-preserved
+loop-i-preserved c =
+    let buf = c.args.buf.now in
+    let i : ℕ = c.loop-i.i in
+    let s : ℕ = c.loop-i.sum in
+    let w : ℕ = c.word.result in
+    let left : s + w + total (drop (i + 2) buf) ≡ s + total (drop i buf) = omega (arith, c.word.ensures, total_two buf i (omega arith)) in (
+      omega arith,
+      refl,
+      ap (λ (k : ℕ). canon (k + total (drop (i + 2) buf))) c.plus-sum.ensures
+          ∙ canon_plus s w (total (drop (i + 2) buf))
+          ∙ ap canon left
+          ∙ c.loop-i.invariant.2,
     )
 
-pub returns : goal.returns
-returns c =
-    let i = c.loop-pair.invariant in
-    let l : List ℕ = c.loop-pair.pair-iterator.rest.now in
-    let few : length l < 2 = omega (arith, c.in-None.ensures.steps.1.0, i.0) in
-    let none : length l - length l % 2 ≡ 0 = omega arith in
-    let same : l ≡ c.remainder-rest.result.now = ap (λ (k : ℕ). drop k l) (sym none) ∙ i.2 in
-    let s : ℕ = c.loop-pair.sum in
-    ap canon c.plus.ensures
-    ∙ canon_sum s c.last_word.result
-    ∙ canon_both s s c.last_word.result (total l) refl (ap canon c.last_word.ensures ∙ ap (λ (k : List ℕ). canon (total k)) (sym same))
-    ∙ i.1
+pub returns-then-i-n : goal.returns-then-i-n
+returns-then-i-n c =
+    let buf = c.args.buf.now in
+    let i : ℕ = c.loop-i.i in
+    let s : ℕ = c.loop-i.sum in
+    let w : ℕ = c.word-then-i-n.result in
+    let left : s + w ≡ s + total (drop i buf) = omega (arith, c.word-then-i-n.ensures, total_one buf i (omega arith)) in
+    ap canon c.plus-sum-then-i-n.ensures ∙ canon_sum s w ∙ ap canon left ∙ c.loop-i.invariant.2
+
+pub returns-else-i-n : goal.returns-else-i-n
+returns-else-i-n c =
+    let buf = c.args.buf.now in
+    let i : ℕ = c.loop-i.i in
+    let s : ℕ = c.loop-i.sum in
+    let left : s ≡ s + total (drop i buf) = omega (arith, total_none buf i (omega arith)) in
+    ap canon left ∙ c.loop-i.invariant.2
