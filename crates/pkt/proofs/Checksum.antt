@@ -1,5 +1,5 @@
 -- Laws of the checksum's definition.
-use Rattle.std.proofs.Common.{append-nil, add-zero, length-append, min, ◌≡◌, ℕ, zero, suc, ◌+◌, ◌-◌, ◌*◌, ◌/◌, ◌%◌, ◌<◌, ◌≤◌, List, [], ◌∷◌, ◌++◌, length, get_or, drop, sym, refl, ap, ◌∙◌, add-one, arith, length-drop, drop_of_length-le, drop-cons, drop-drop}
+use Rattle.std.proofs.Common.{◌≡◌, ℕ, zero, suc, ◌+◌, ◌-◌, ◌*◌, ◌/◌, ◌%◌, ◌<◌, ◌≤◌, List, [], ◌∷◌, ◌++◌, length, get_or, drop, sym, refl, ap, ◌∙◌, add-one, arith, length-drop, drop_of_length-le, drop-cons, drop-drop}
 use native.Mathlib.Numerals.{add-two}
 use Rattle.pkt.proofs.Bytes.{bytes_append}
 use Rattle.pkt.proofs.Fields.{be_bytes}
@@ -228,21 +228,3 @@ parts_checksum a b c ea eb ba bb bc =
     let t : total a + total b + total c ≡ total (a ++ (b ++ c)) = omega (arith, total_append a (b ++ c) ea, total_append b c eb) in
     ap (λ (k : ℕ). 65535 - k) (w ∙ ap canon t)
     ∙ sym (checksum_total (a ++ (b ++ c)) (bytes_append a (b ++ c) ba (bytes_append b c bb bc)))
-
--- ---- chunks of an even number of octets, the last of which may be shorter
-
-pub chunk_total : (k : ℕ) (x r : List ℕ) → k % 2 ≡ 0 → length x ≡ min k (length (x ++ r)) → total (x ++ r) ≡ total x + total r
-unfolding total
-chunk_total k x [] e h = ap total (append-nil x) ∙ sym (add-zero (total x))
-chunk_total k x (y ∷ r) e h =
-    let n : length (x ++ y ∷ r) ≡ length x + suc (length r) = length-append x (y ∷ r) in
-    let all : length x ≡ k = omega (arith, h, n) in
-    total_append x (y ∷ r) (ap (λ (m : ℕ). m % 2) all ∙ e)
-
--- A chunk more, whose words sum to f: what is summed and what is left fold to what they did.
-pub chunk_step : (k s f : ℕ) (l x r : List ℕ) → k % 2 ≡ 0 → l ≡ x ++ r → length x ≡ min k (length l) → canon f ≡ canon (total x)
-    → canon (plus s f + total r) ≡ canon (s + total l)
-chunk_step k s f l x r e is h w =
-    let long : length x ≡ min k (length (x ++ r)) = h ∙ ap (λ (m : List ℕ). min k (length m)) is in
-    let sum : s + total x + total r ≡ s + total l = omega (arith, chunk_total k x r e long, ap total is) in
-    canon_plus s f (total r) ∙ canon_both (s + f) (s + total x) (total r) (total r) (canon_both s s f (total x) refl w) refl ∙ ap canon sum
