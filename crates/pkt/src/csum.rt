@@ -3,11 +3,12 @@ ghost use Rattle.std.specs.Prelude.{◌≡◌, ◌+◌, ◌-◌, ◌*◌, ◌≤
 ghost use Rattle.pkt.specs.Rfc1071 as rfc;
 ghost use Rattle.pkt.specs.Sums.{total, canon, four_words};
 
-// RFC 1071, 1, (1): adjacent octets are paired to form 16-bit integers.
+// RFC 1071, 1, (1): adjacent octets are paired to form 16-bit integers. (By a sum, and the loops below by an index: by from_be_bytes and by chunks or
+// chunks_exact a checksum takes up to 1.4 times as long, by where its code comes to lie. docs/DESIGN-PASS.md has the times.)
 fn word(hi: u8, lo: u8) -> u16
     ensures { result ≡ hi * 256 + lo }
 {
-    u16::from_be_bytes([hi, lo])
+    (hi as u16) * 256 + lo as u16
 }
 
 // RFC 1071, 1: the one's complement addition of two of them. A sum that is below one of its parts has overflowed, and the carry is added at the bottom.
@@ -48,8 +49,7 @@ fn singly(buf: &[u8]) -> u16
     sum
 }
 
-// The sum of the words of buf: four in a turn, and what is left one by one. (A while, by an index, here and above: by chunks or chunks_exact it took up
-// to 1.4 times as long, by where the code lies. docs/DESIGN-PASS.md has the times.)
+// The sum of the words of buf: four in a turn, and what is left one by one.
 pub(crate) fn ip_csum_partial(buf: &[u8]) -> u16
     ensures { canon result ≡ canon (total buf.now) }
 {
