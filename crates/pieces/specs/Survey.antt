@@ -2,7 +2,7 @@
 use Rattle.std.specs.Prelude.{ℕ, ◌+◌, ◌-◌, ◌<◌, ◌≤◌, cond, ◌≡◌, Option, Some, None, List, ◌++◌, length, take, drop, set, ltb}
 use Rattle.pkt.specs.Answers.{most_ip, most_offset}
 use Rattle.pkt.specs.Written.{written}
-use Rattle.ezpkt.specs.Build.{packet_of}
+use Rattle.ezpkt.specs.Build.{packet_of, is_bad_offset}
 use Rattle.ezpkt.specs.Ip4.{fragment_of}
 use Rattle.ezpkt.specs.declared.ip4.Template.{Template}
 use Rattle.pieces.specs.declared.BlockRequest.{BlockRequest}
@@ -15,6 +15,16 @@ bad_in rs = cond (ltb (first_bad rs) (length rs)) (Some (first_bad rs)) None
 -- what the packets for n bytes leave of so much room, where there is room for them
 abbrev pub left_of : ℕ → ℕ → List BlockRequest → Option ℕ
 left_of n room rs = cond (ltb room (sum_of n rs)) None (Some (room - sum_of n rs))
+
+-- the index of the first bad request, where this one is looked at, at index i, behind those before
+unfoldable pub first_after : Option ℕ → ℕ → BlockRequest → Option ℕ
+first_after (Some k) i r = Some k
+first_after None i r = cond (is_bad_offset r.off) (Some i) None
+
+-- what a packet of so many bytes leaves of what was left, if there was room and is room for it
+unfoldable pub left_after : Option ℕ → ℕ → Option ℕ
+left_after None s = None
+left_after (Some l) s = cond (ltb l s) None (Some (l - s))
 
 -- Nothing stops the call: the payload is short enough, no offset is bad, and there is room for the packets and a place for each end
 pub record Fits (rs : List BlockRequest) (n room places : ℕ) : Type 0 where

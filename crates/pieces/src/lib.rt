@@ -6,7 +6,7 @@ ghost use Rattle.pkt.specs.Answers.{list_says};
 ghost use Rattle.pkt.specs.Written.{written};
 ghost use Rattle.ezpkt.specs.Build.{is_bad_offset};
 ghost use Rattle.pieces.specs.Fragments.{packets_of, ends_from, fragments_answer, Fragmented};
-ghost use Rattle.pieces.specs.Survey.{bad_in, left_of, Fits, PutAsks, Put};
+ghost use Rattle.pieces.specs.Survey.{bad_in, left_of, first_after, left_after, Fits, PutAsks, Put};
 
 use ezpkt::ip4;
 use ezpkt::ip4::Template;
@@ -27,22 +27,44 @@ fn is_bad(r: BlockRequest) -> bool
     r.off > limit::OFFSET
 }
 
-// The index of the first request whose offset is too large, where there is one.
-fn first_bad(list: &[BlockRequest]) -> Option<usize>
-    ensures { result ≡ bad_in list.now }
-{
-    list.iter().position(|r| is_bad(*r))
+// What is found in a list before it is cut: the index of the first request whose offset is too large, where there is one, and what the packets leave
+// of the room, where there is room for them.
+#[derive(Clone, Copy, Drop)]
+struct Found {
+    pub bad: Option<usize>,
+    pub left: Option<usize>,
 }
 
-// What the packets of the list, for a payload of n bytes, leave of so much room; nothing where they are more.
-fn left_of(list: &[BlockRequest], n: usize, room: usize) -> Option<usize>
-    ensures { result ≡ left_of n room list.now }
+// The index of the first bad request, where r is looked at, at index i, behind those before.
+#[tactic(auto, unfolding(crate::specs::Survey::first_after))]
+fn first_after(bad: Option<usize>, i: usize, r: BlockRequest) -> Option<usize>
+    ensures { result ≡ first_after bad i r }
 {
-    let mut left = room;
-    for r in list {
-        left = left.checked_sub(ip4::fragment_size(r.off, r.len, n))?;
+    if bad.is_none() && is_bad(r) {
+        return Some(i);
     }
-    Some(left)
+    bad
+}
+
+// What a packet of so many bytes leaves, where there was room before and is room for it.
+#[tactic(auto, unfolding(crate::specs::Survey::left_after))]
+fn left_after(left: Option<usize>, size: usize) -> Option<usize>
+    ensures { result ≡ left_after left size }
+{
+    left?.checked_sub(size)
+}
+
+// What is found in the list for a payload of n bytes and an output of so much room: it is looked through once.
+fn survey(list: &[BlockRequest], n: usize, room: usize) -> Found
+    ensures { (result.bad ≡ bad_in list.now) × (result.left ≡ left_of n room list.now) }
+{
+    let mut bad = None;
+    let mut left = Some(room);
+    for (i, r) in list.iter().enumerate() {
+        bad = first_after(bad, i, *r);
+        left = left_after(left, ip4::fragment_size(r.off, r.len, n));
+    }
+    Found { bad, left }
 }
 
 // The answer for a payload of n bytes, an output of so much room, and so many places for ends.
@@ -52,10 +74,11 @@ fn answer(list: &[BlockRequest], n: usize, room: usize, places: usize) -> Result
     if n > limit::IP_PAYLOAD {
         return Err(ListRefusal::Whole(Refusal::TooLong));
     }
-    if let Some(i) = first_bad(list) {
+    let found = survey(list, n, room);
+    if let Some(i) = found.bad {
         return Err(ListRefusal::At(Refusal::BadOffset, i));
     }
-    let left = left_of(list, n, room).ok_or(Refusal::NoRoom)?;
+    let left = found.left.ok_or(Refusal::NoRoom)?;
     if places < list.len() {
         return Err(ListRefusal::Whole(Refusal::NoRoom));
     }
