@@ -362,14 +362,19 @@ fn runs(rt: &impl Print, payloads: &mut [u8], maps: &mut [u8]) -> io::Result<()>
     beside(rt, payloads, maps)
 }
 
-fn main(rt: HostRuntime) -> io::Result<()> {
+// All of them.
+fn each(rt: &impl Print) -> io::Result<()> {
     let mut payloads = [0u8; 65536];
     let mut maps = [0u8; 1024];
-    runs(&rt, &mut payloads, &mut maps)?;
-    rubbish(&rt)?;
-    sizes(&rt)?;
-    records(&rt)?;
-    headers(&rt)?;
-    router_alert(&rt)?;
-    ends(&rt)
+    runs(rt, &mut payloads, &mut maps)?;
+    rubbish(rt)?;
+    sizes(rt)?;
+    records(rt)?;
+    headers(rt)?;
+    router_alert(rt)?;
+    ends(rt)
+}
+
+fn main(rt: HostRuntime) {
+    let _ = each(&rt); // what cannot be written is not shown
 }

@@ -9,7 +9,12 @@ mod shown;
 
 use std::io::Error;
 
-fn main(rt: HostRuntime) -> Result<(), Error> {
-    accepted::each(&rt)?;
-    refused::each(&rt)
+// All of them.
+fn each(rt: &(impl Print + AllocGlobal)) -> Result<(), Error> {
+    accepted::each(rt)?;
+    refused::each(rt)
+}
+
+fn main(rt: HostRuntime) {
+    let _ = each(&rt); // what cannot be written is not shown
 }

@@ -4,7 +4,7 @@
 use packet::Packet;
 use pkt::refusal::Refusal;
 use std::io;
-use std::io::{ErrorKind, Read};
+use std::io::Read;
 
 // The packet of these bytes.
 fn packet_of(bytes: &[u8], buf: &mut [u8]) -> Result<Packet, Refusal> {
@@ -29,13 +29,12 @@ fn dump(rt: &(impl Print + AllocGlobal), bytes: &[u8]) -> io::Result<()> {
     }
 }
 
-// Reads at most 4,096 bytes, and shows them. A read that fails is the input's end.
+// Reads at most 4,096 bytes, and shows them. A read that fails is the input's end; all that is read has room from the
+// start.
 fn run(rt: &(impl Print + Input + AllocGlobal)) -> io::Result<()> {
-    let mut input = Vec::new(rt.alloc());
-    match rt.reader().take(4096).read_to_end(&mut input) {
-        Err(e) if e.kind() == ErrorKind::OutOfMemory => Err(e),
-        _ => dump(rt, &input),
-    }
+    let mut input = Vec::with_capacity(rt.alloc(), 4096)?;
+    let _ = rt.reader().take(4096).read_to_end(&mut input);
+    dump(rt, &input)
 }
 
 fn main(rt: HostRuntime) {

@@ -38,7 +38,9 @@ fn show(
     }
 }
 
-// A frame, with room for any over a link of 65,535.
+// A frame, with room for any over a link of 65,535. (Not inlined, nor is refused::each: so the room of only one of them
+// is on the stack at a time.)
+#[inline(never)]
 fn send(rt: &impl Print, feed: Feed, bytes: &[u8], sec: u32, usec: u32) -> Result<Feed, Error> {
     let mut scratch = [0u8; 65535];
     let mut out = [0u8; 65551];
@@ -115,9 +117,14 @@ fn run(rt: &impl Print, bytes: &[u8]) -> Result<(), Error> {
     Ok(())
 }
 
-fn main(rt: HostRuntime) -> Result<(), Error> {
+// All of them.
+fn each(rt: &impl Print) -> Result<(), Error> {
     let mut bytes = [0u8; 65508];
     fill(&mut bytes);
-    header(&rt)?;
-    run(&rt, &bytes)
+    header(rt)?;
+    run(rt, &bytes)
+}
+
+fn main(rt: HostRuntime) {
+    let _ = each(&rt); // what cannot be written is not shown
 }

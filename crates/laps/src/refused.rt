@@ -24,6 +24,7 @@ fn over(feed: Feed, link: u32, bytes: &[u8], usec: u32) -> u8 {
 
 // All of them: `long` has 65,508 bytes, and `bytes` has 12, which the feed's link takes in one piece: they take 40
 // bytes of scratch and 56 of output.
+#[inline(never)]
 pub(crate) fn each(feed: Feed, long: &[u8], bytes: &[u8]) -> [u8; 9] {
     [
         over(feed, 65535, long, 0),

@@ -22,8 +22,13 @@ const SERVER: SocketAddrV4 = SocketAddrV4 {
     port: 80,
 };
 
-fn main(rt: HostRuntime) -> io::Result<()> {
-    tcp::calls(&rt, CLIENT, SERVER, MARKS)?;
-    udp::calls(&rt, CLIENT, SERVER, MARKS)?;
-    icmp::calls(&rt, CLIENT.ip, SERVER.ip, MARKS)
+// All of them.
+fn each(rt: &impl Print) -> io::Result<()> {
+    tcp::calls(rt, CLIENT, SERVER, MARKS)?;
+    udp::calls(rt, CLIENT, SERVER, MARKS)?;
+    icmp::calls(rt, CLIENT.ip, SERVER.ip, MARKS)
+}
+
+fn main(rt: HostRuntime) {
+    let _ = each(&rt); // what cannot be written is not shown
 }

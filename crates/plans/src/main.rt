@@ -102,7 +102,12 @@ fn checks(rt: &impl Print) -> Result<(), Error> {
     print_judged(rt, planner::look_none(65516, 1500))
 }
 
-fn main(rt: HostRuntime) -> Result<(), Error> {
-    lists(&rt)?;
-    checks(&rt)
+// All of them.
+fn each(rt: &impl Print) -> Result<(), Error> {
+    lists(rt)?;
+    checks(rt)
+}
+
+fn main(rt: HostRuntime) {
+    let _ = each(&rt); // what cannot be written is not shown
 }

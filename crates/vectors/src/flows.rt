@@ -148,12 +148,18 @@ fn sending(now: Now, kind: u8, b: &[u8], bytes: &[u8]) -> Now {
     written(now, kind, b, bytes, &mut out[0..end])
 }
 
+// A case that writes packets. (Not inlined: in call its 64 KiB would be zeroed for the other cases too.)
+#[inline(never)]
+fn packets(now: Now, kind: u8, b: &[u8]) -> Now {
+    let mut data = io::large_buffer();
+    let n = payload::make(kind, b, &mut data);
+    sending(now, kind, b, &data[0..n])
+}
+
 // The case on the flows.
 pub(crate) fn call(now: Now, kind: u8, b: &[u8]) -> Now {
     if place::form_of(kind) != Form::Nothing {
-        let mut data = io::large_buffer();
-        let n = payload::make(kind, b, &mut data);
-        return sending(now, kind, b, &data[0..n]);
+        return packets(now, kind, b);
     }
     if kind == 0x30 {
         return icmp::opened(now, b);

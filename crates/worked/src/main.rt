@@ -236,17 +236,22 @@ fn piece(rt: &impl Print, off: u16, len: u16) -> io::Result<()> {
     show_bytes(rt, &out[6..8])
 }
 
-fn main(rt: HostRuntime) -> io::Result<()> {
-    checksums(&rt)?;
-    syn(&rt)?;
-    udp_ones(&rt)?;
-    tcp_limits(&rt)?;
-    udp_limits(&rt, "UDP with checksum", true)?;
-    udp_limits(&rt, "UDP without checksum", false)?;
-    flows(&rt)?;
-    piece(&rt, 0, 1)?;
-    piece(&rt, 2, 1)?;
-    piece(&rt, 2, 0)?;
-    piece(&rt, 3, 1)?;
-    piece(&rt, 8192, 1)
+// All of them.
+fn each(rt: &impl Print) -> io::Result<()> {
+    checksums(rt)?;
+    syn(rt)?;
+    udp_ones(rt)?;
+    tcp_limits(rt)?;
+    udp_limits(rt, "UDP with checksum", true)?;
+    udp_limits(rt, "UDP without checksum", false)?;
+    flows(rt)?;
+    piece(rt, 0, 1)?;
+    piece(rt, 2, 1)?;
+    piece(rt, 2, 0)?;
+    piece(rt, 3, 1)?;
+    piece(rt, 8192, 1)
+}
+
+fn main(rt: HostRuntime) {
+    let _ = each(&rt); // what cannot be written is not shown
 }
