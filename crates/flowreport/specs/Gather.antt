@@ -7,6 +7,10 @@ use Rattle.reading.specs.Reading.{Next, open_at, spot_at, packet_at, more_at, pa
 use Rattle.reading.specs.Ends.{records_answer, last_of}
 use Rattle.reporting.specs.Report.{cut_at, first_wrong}
 
+-- the bytes of the longest capture that is taken
+abbrev pub most_bytes : ℕ
+most_bytes = 2097152
+
 -- the packets of the records that steps find, from a place behind k records on, as far as there are no more than most
 unfoldable pub packets_from : ℕ → ℕ → ℕ → List ℕ → List (List ℕ)
 packets_from zero k at l = []

@@ -5,16 +5,16 @@ mod gather;
 mod table;
 
 ghost use Rattle.std.specs.Prelude.{◌≤◌, length};
-ghost use Rattle.flowreport.specs.Gather.{GatherAsks};
+ghost use Rattle.flowreport.specs.Gather.{GatherAsks, most_bytes};
 
 use ezpkt::SocketAddrV4;
 use pkt::refusal::{ListRefusal, Refusal};
 use reporting::Report;
 use std::alloc::AllocError;
-use std::env;
-use std::env::Args;
+use std::env::FillError;
 use std::fmt::Display;
-use std::io::{ErrorKind, Read};
+use std::io::Read;
+use std::rt::Env;
 
 // The bytes of the longest capture that is taken.
 const MOST: usize = 2097152;
@@ -80,7 +80,9 @@ fn report(
     capture: &[u8],
     cl: SocketAddrV4,
     sv: SocketAddrV4,
-) -> Result<(), AllocError> {
+) -> Result<(), AllocError>
+    requires { length capture.now ≤ most_bytes }
+{
     let mut out = vec![in rt.alloc(); 0u8; capture.len()]?;
     let mut ends = vec![in rt.alloc(); 0usize; capture.len() / 16 + 1]?;
     match report_in(capture, &mut out, &mut ends, cl, sv) {
@@ -94,42 +96,72 @@ fn report(
     Ok(())
 }
 
-// Reads a capture, and reports on it; a byte more than the longest has shows that there is more. A read that fails is the input's end.
+// Reads until the buffer is full or the input ends, and answers how many bytes were read. A read that fails is the input's end.
+// (A while into a lent array: read_to_end asks for 512 bytes at first, and so cuts a longer message. In each program for itself: no contract can say
+// what a stream gives.)
+fn fill(from: &mut impl Read, buf: &mut [u8]) -> usize
+    ensures { result ≤ length buf.new }
+{
+    let mut n = 0;
+    while n < buf.len() {
+        let more = from.read(&mut buf[n..]).unwrap_or(0);
+        if more == 0 {
+            break;
+        }
+        n += more;
+    }
+    n
+}
+
+// Reads a capture, and reports on it; a byte more than the longest has shows that there is more.
 fn run(
     rt: &(impl Print + Eprint + Input + AllocGlobal),
     cl: SocketAddrV4,
     sv: SocketAddrV4,
 ) -> Result<(), AllocError> {
-    let mut input = Vec::new(rt.alloc());
-    match rt.reader().take(MOST as u64 + 1).read_to_end(&mut input) {
-        Err(e) if e.kind() == ErrorKind::OutOfMemory => Err(AllocError),
-        _ if MOST < input.len() => {
-            let _ = rt.eprintln("flowreport: more than 2,097,152 bytes of input");
-            Ok(())
-        }
-        _ => report(rt, &input, cl, sv),
+    let mut input = vec![in rt.alloc(); 0u8; MOST + 1]?;
+    let n = fill(&mut rt.reader(), &mut input);
+    if MOST < n {
+        let _ = rt.eprintln("flowreport: more than 2,097,152 bytes of input");
+        return Ok(());
     }
+    report(rt, &input[..n], cl, sv)
+}
+
+// The word of this number at the start of buf, and how long it is: 0 where it is missing or longer than buf. (Not env::args, here and below: it wants
+// memory for every word and UTF-8 in every word, the program's name too. In each program for itself: no contract can say which words it has.)
+fn word(rt: &impl Env, i: usize, buf: &mut [u8]) -> usize
+    ensures { result ≤ length buf.new }
+{
+    rt.arg(i, buf).unwrap_or(0)
+}
+
+// How many words there are, with the program's name.
+fn word_count(rt: &impl Env) -> usize {
+    for i in 0..usize::MAX {
+        if let Err(FillError::NotPresent) = rt.arg(i, &mut [0u8; 1]) {
+            return i;
+        }
+    }
+    usize::MAX
 }
 
 // The two addresses that the words behind the program's name are, if they are.
-fn addresses(mut args: Args) -> Option<(SocketAddrV4, SocketAddrV4)> {
-    if args.len() != 3 {
+fn addresses(rt: &impl Env) -> Option<(SocketAddrV4, SocketAddrV4)> {
+    let mut client = [0u8; words::LONGEST];
+    let mut server = [0u8; words::LONGEST];
+    let a = word(rt, 1, &mut client);
+    let b = word(rt, 2, &mut server);
+    if word_count(rt) != 3 {
         return None;
     }
-    let _name = args.next()?;
-    let client = args.next()?;
-    let server = args.next()?;
-    let cl = words::read_address(client.as_bytes())?;
-    let sv = words::read_address(server.as_bytes())?;
+    let cl = words::read_address(&client[..a])?;
+    let sv = words::read_address(&server[..b])?;
     Some((cl, sv))
 }
 
 fn main(rt: HostRuntime) {
-    let asked = match env::args(&rt) {
-        Ok(args) => addresses(args),
-        Err(_) => None,
-    };
-    let Some((cl, sv)) = asked else {
+    let Some((cl, sv)) = addresses(&rt) else {
         say_wanted(&rt);
         return;
     };

@@ -10,9 +10,9 @@ ghost use Rattle.lapfeed.specs.Frames.{Ready, Follows, SetUp};
 use feed::Feed;
 use pkt::limit;
 use setup::Setup;
-use std::env;
-use std::env::Args;
+use std::env::FillError;
 use std::io::{Error, Read};
+use std::rt::Env;
 
 // Says on standard error what failed, and why. (In each program for itself: no contract can say what a stream takes, and nothing public goes without
 // one.)
@@ -138,39 +138,51 @@ fn say_wanted(rt: &impl Eprint) {
     );
 }
 
-// The bytes of a word; none where it is missing. (plan has it too: one line, and no library's.)
-fn bytes(word: &Option<String>) -> &[u8] {
-    word.as_deref().unwrap_or("").as_bytes()
+// The word of this number at the start of buf, and how long it is: 0 where it is missing or longer than buf. (Not env::args, here and below: it wants
+// memory for every word and UTF-8 in every word, the program's name too. In each program for itself: no contract can say which words it has.)
+fn word(rt: &impl Env, i: usize, buf: &mut [u8]) -> usize
+    ensures { result ≤ length buf.new }
+{
+    rt.arg(i, buf).unwrap_or(0)
 }
 
-// Runs what the words ask for, of which there are so many with the program's name.
-fn start(rt: &(impl Print + Eprint + Input), mut args: Args) {
-    let count = args.len();
-    let _name = args.next();
-    let car = args.next();
-    let core = args.next();
-    let link = args.next();
-    let size = args.next();
-    let tos = args.next();
-    let ttl = args.next();
-    let setup = setup::read_all(
-        count,
-        bytes(&car),
-        bytes(&core),
-        bytes(&link),
-        bytes(&size),
-        bytes(&tos),
-        bytes(&ttl),
-    );
-    match setup {
+// How many words there are, with the program's name.
+fn word_count(rt: &impl Env) -> usize {
+    for i in 0..usize::MAX {
+        if let Err(FillError::NotPresent) = rt.arg(i, &mut [0u8; 1]) {
+            return i;
+        }
+    }
+    usize::MAX
+}
+
+// Reads the two words behind the first four, if they are there, and runs what all of them ask for.
+fn start(
+    rt: &(impl Print + Eprint + Input + Env),
+    car: &[u8],
+    core: &[u8],
+    link: &[u8],
+    size: &[u8],
+) {
+    let mut tos = [0u8; words::LONGEST];
+    let mut ttl = [0u8; words::LONGEST];
+    let a = word(rt, 5, &mut tos);
+    let b = word(rt, 6, &mut ttl);
+    let count = word_count(rt);
+    match setup::read_all(count, car, core, link, size, &tos[..a], &ttl[..b]) {
         Some(setup) => run(rt, setup),
         None => say_wanted(rt),
     }
 }
 
 fn main(rt: HostRuntime) {
-    match env::args(&rt) {
-        Ok(args) => start(&rt, args),
-        Err(_) => say_wanted(&rt),
-    }
+    let mut car = [0u8; words::LONGEST];
+    let mut core = [0u8; words::LONGEST];
+    let mut link = [0u8; words::LONGEST];
+    let mut size = [0u8; words::LONGEST];
+    let a = word(&rt, 1, &mut car);
+    let b = word(&rt, 2, &mut core);
+    let c = word(&rt, 3, &mut link);
+    let d = word(&rt, 4, &mut size);
+    start(&rt, &car[..a], &core[..b], &link[..c], &size[..d]);
 }

@@ -1,11 +1,13 @@
 // Exports a capture: the classic capture on standard input goes to standard output as pcapng.
 #![tactic(auto)]
 
+ghost use Rattle.std.specs.Prelude.{◌≤◌, length, IfOk};
+
 use pkt::refusal::{ListRefusal, Refusal};
 use std::alloc::AllocError;
 use std::env::FillError;
 use std::fmt::Display;
-use std::io::Read;
+use std::io::{Error, Read};
 use std::rt::Env;
 
 // The bytes of the longest capture that is taken.
@@ -67,15 +69,32 @@ fn export(rt: &(impl Print + Eprint + AllocGlobal), capture: &[u8]) -> Result<()
     Ok(())
 }
 
+// Reads until the buffer is full or the input ends, and answers how many bytes were read.
+// (A while into a lent array: read_to_end asks for 512 bytes at first, and so cuts a longer message. In each program for itself: no contract can say
+// what a stream gives.)
+fn fill(from: &mut impl Read, buf: &mut [u8]) -> Result<usize, Error>
+    ensures { IfOk result (λ n. n ≤ length buf.new) }
+{
+    let mut n = 0;
+    while n < buf.len() {
+        let more = from.read(&mut buf[n..])?;
+        if more == 0 {
+            break;
+        }
+        n += more;
+    }
+    Ok(n)
+}
+
 // Reads a capture, and exports it; a byte more than the longest has shows that there is more.
 fn run(rt: &(impl Print + Eprint + Input + AllocGlobal)) -> Result<(), AllocError> {
-    let mut input = Vec::new(rt.alloc());
-    match rt.reader().take(MOST as u64 + 1).read_to_end(&mut input) {
+    let mut input = vec![in rt.alloc(); 0u8; MOST + 1]?;
+    match fill(&mut rt.reader(), &mut input) {
         Err(e) => say_failed(rt, "standard input", e),
         Ok(n) if MOST < n => {
             let _ = rt.eprintln("pcapng: more than 2,097,152 bytes of input");
         }
-        Ok(_) => export(rt, &input)?,
+        Ok(n) => export(rt, &input[..n])?,
     }
     Ok(())
 }

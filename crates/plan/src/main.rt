@@ -4,7 +4,7 @@
 mod lines;
 mod words;
 
-ghost use Rattle.std.specs.Prelude.{◌≡◌, ◌-◌};
+ghost use Rattle.std.specs.Prelude.{◌≡◌, ◌≤◌, ◌-◌, length};
 ghost use Rattle.ezpkt.specs.Build.{start_at, end_at};
 
 use ezpkt::ip4;
@@ -12,9 +12,9 @@ use lines::{Fault, Place, Reading};
 use pieces::BlockRequest;
 use pkt::refusal::Refusal;
 use planner::{Job, Look};
-use std::env;
-use std::env::Args;
+use std::env::FillError;
 use std::io::{Error, Read};
+use std::rt::Env;
 use words::Ask;
 
 // Says on standard error what failed, and why. In each program for itself: no contract can say what a stream takes,
@@ -56,10 +56,17 @@ fn print_refused(rt: &impl Print, refusal: Refusal) -> Result<(), Error> {
     }
 }
 
-fn list(rt: &impl Print, n: usize, m: usize) -> Result<(), Error> {
+// The plan, or its refusal. Of the plan's lines alone a failed write is said.
+fn list(rt: &(impl Print + Eprint), n: usize, m: usize) {
     match planner::decide(n, m, lines::MOST_LINES) {
-        Ok(job) => print_requests(rt, job),
-        Err(refusal) => print_refused(rt, refusal),
+        Ok(job) => {
+            if let Err(e) = print_requests(rt, job) {
+                say_failed(rt, "standard output", e);
+            }
+        }
+        Err(refusal) => {
+            let _ = print_refused(rt, refusal);
+        }
     }
 }
 
@@ -84,22 +91,19 @@ fn say_fault(rt: &impl Eprint, fault: Fault) {
     };
 }
 
-// The answer where the list ends here.
-fn finish(rt: &(impl Print + Eprint), reading: Reading) -> Result<(), Error> {
+// The answer where the list ends here. That it could not be written is not said.
+fn finish(rt: &(impl Print + Eprint), reading: Reading) {
     let place = reading.place;
     let look = reading.look;
-    match place {
+    let _ = match place {
         Place::Start => print_judged(rt, look),
         Place::Whole(_, _) => print_judged(rt, look),
-        _ => {
-            say_fault(rt, Fault::Bad(reading.lines));
-            Ok(())
-        }
-    }
+        _ => return say_fault(rt, Fault::Bad(reading.lines)),
+    };
 }
 
 // Reads to the end of the list. A loop has to end, and nothing says that the input does: this one stops after more reads than any input takes.
-fn check(rt: &(impl Print + Eprint + Input), n: usize, m: usize) -> Result<(), Error> {
+fn check(rt: &(impl Print + Eprint + Input), n: usize, m: usize) {
     let mut from = rt.reader();
     let mut reading = lines::read_none(n, m);
     let mut buf = [0u8; 4096];
@@ -107,21 +111,14 @@ fn check(rt: &(impl Print + Eprint + Input), n: usize, m: usize) -> Result<(), E
         let k = match from.read(&mut buf) {
             Ok(0) => return finish(rt, reading),
             Ok(k) => k,
-            Err(e) => {
-                say_failed(rt, "standard input", e);
-                return Ok(());
-            }
+            Err(e) => return say_failed(rt, "standard input", e),
         };
         reading = match lines::read_on(reading, &buf[..k]) {
             Ok(next) => next,
-            Err(fault) => {
-                say_fault(rt, fault);
-                return Ok(());
-            }
+            Err(fault) => return say_fault(rt, fault),
         };
     }
     let _ = eprintln!(rt; "plan: the list did not end after 18,446,744,073,709,551,615 reads");
-    Ok(())
 }
 
 fn say_wanted(rt: &impl Eprint) {
@@ -130,35 +127,35 @@ fn say_wanted(rt: &impl Eprint) {
     );
 }
 
-// The bytes of a word; none where it is missing. lapfeed has it too: one line, and no library's.
-fn bytes(word: &Option<String>) -> &[u8] {
-    word.as_deref().unwrap_or("").as_bytes()
+// The word of this number at the start of buf, and how long it is: 0 where it is missing or longer than buf. (Not env::args, here and below: it wants
+// memory for every word and UTF-8 in every word, the program's name too. In each program for itself: no contract can say which words it has.)
+fn word(rt: &impl Env, i: usize, buf: &mut [u8]) -> usize
+    ensures { result ≤ length buf.new }
+{
+    rt.arg(i, buf).unwrap_or(0)
 }
 
-// Does what the words ask for.
-fn run(rt: &(impl Print + Eprint + Input), mut args: Args) -> Result<(), Error> {
-    let _name = args.next();
-    let count = args.len();
-    let n = args.next();
-    let m = args.next();
-    let third = args.next();
-    match words::read_words(count, bytes(&n), bytes(&m), bytes(&third)) {
-        Some(Ask::List(n, m)) => list(rt, n, m),
-        Some(Ask::Check(n, m)) => check(rt, n, m),
-        None => {
-            say_wanted(rt);
-            Ok(())
+// How many words there are, with the program's name.
+fn word_count(rt: &impl Env) -> usize {
+    for i in 0..usize::MAX {
+        if let Err(FillError::NotPresent) = rt.arg(i, &mut [0u8; 1]) {
+            return i;
         }
     }
+    usize::MAX
 }
 
 fn main(rt: HostRuntime) {
-    match env::args(&rt) {
-        Ok(args) => {
-            if let Err(e) = run(&rt, args) {
-                say_failed(&rt, "standard output", e);
-            }
-        }
-        Err(_) => say_wanted(&rt),
+    let mut n = [0u8; words::LONGEST];
+    let mut m = [0u8; words::LONGEST];
+    let mut third = [0u8; 5];
+    let a = word(&rt, 1, &mut n);
+    let b = word(&rt, 2, &mut m);
+    let c = word(&rt, 3, &mut third);
+    let count = word_count(&rt).saturating_sub(1);
+    match words::read_words(count, &n[..a], &m[..b], &third[..c]) {
+        Some(Ask::List(n, m)) => list(&rt, n, m),
+        Some(Ask::Check(n, m)) => check(&rt, n, m),
+        None => say_wanted(&rt),
     }
 }

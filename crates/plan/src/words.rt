@@ -2,6 +2,9 @@
 ghost use Rattle.std.specs.Prelude.{◌≡◌};
 ghost use Rattle.plan.specs.Words.{first_digit, more_digit, number_in, is_check, ask_in};
 
+// The digits of the largest number, 18,446,744,073,709,551,615.
+pub const LONGEST: usize = 20;
+
 // What the words ask for: the list for n bytes and a link of m, or a check of one.
 #[derive(Clone, Copy, Drop)]
 pub enum Ask {
