@@ -3,8 +3,8 @@ ghost use Rattle.std.specs.Prelude.{◌≡◌, ◌+◌, ◌-◌, ◌*◌, ◌≤
 ghost use Rattle.pkt.specs.Rfc1071 as rfc;
 ghost use Rattle.pkt.specs.Sums.{total, canon, four_words};
 
-// RFC 1071, 1, (1): adjacent octets are paired to form 16-bit integers. (By a sum, and the loops below by an index: by from_be_bytes and by chunks or
-// chunks_exact a checksum takes up to 1.4 times as long, by where its code comes to lie. docs/DESIGN-PASS.md has the times.)
+// RFC 1071, 1, (1): adjacent octets are paired to form 16-bit integers. (By a sum, and the loops below by an index and not inlined: docs/DESIGN-PASS.md
+// has the times of the other forms.)
 fn word(hi: u8, lo: u8) -> u16
     ensures { result ≡ hi * 256 + lo }
 {
@@ -50,6 +50,7 @@ fn singly(buf: &[u8]) -> u16
 }
 
 // The sum of the words of buf: four in a turn, and what is left one by one.
+#[inline(never)]
 pub(crate) fn ip_csum_partial(buf: &[u8]) -> u16
     ensures { canon result ≡ canon (total buf.now) }
 {
