@@ -114,18 +114,27 @@ fn fill(from: &mut impl Read, buf: &mut [u8]) -> usize
 }
 
 // Reads a capture, and reports on it; a byte more than the longest has shows that there is more.
+fn read_into(
+    rt: &(impl Print + Eprint + Input + AllocGlobal),
+    input: &mut [u8],
+    cl: SocketAddrV4,
+    sv: SocketAddrV4,
+) -> Result<(), AllocError> {
+    let n = fill(&mut rt.reader(), input);
+    if MOST < n {
+        let _ = rt.eprintln("flowreport: more than 2,097,152 bytes of input");
+        return Ok(());
+    }
+    report(rt, &input[..n], cl, sv)
+}
+
 fn run(
     rt: &(impl Print + Eprint + Input + AllocGlobal),
     cl: SocketAddrV4,
     sv: SocketAddrV4,
 ) -> Result<(), AllocError> {
     let mut input = vec![in rt.alloc(); 0u8; MOST + 1]?;
-    let n = fill(&mut rt.reader(), &mut input);
-    if MOST < n {
-        let _ = rt.eprintln("flowreport: more than 2,097,152 bytes of input");
-        return Ok(());
-    }
-    report(rt, &input[..n], cl, sv)
+    read_into(rt, &mut input, cl, sv)
 }
 
 // The word of this number at the start of buf, and how long it is: 0 where it is missing or longer than buf. (Not env::args, here and below: it wants
